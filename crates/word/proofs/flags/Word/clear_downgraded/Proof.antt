@@ -1,0 +1,23 @@
+-- `word::flags::Word::clear_downgraded` meets its contract: each answer by the tests that led to it. Assumes nothing.
+use mathlib.Core.Path.{_∙_, sym}
+use borrow.Author.Tests.{eqb-true}
+use borrow.Author.Needs.{needs}
+use native.Mathlib.Omega.{arith}
+use Rattle.word.specs.Cases.{cases}
+use Rattle.word.proofs.flags.Word.clear_downgraded.Statement.{statement}
+use Rattle.word.proofs.flags.Word.clear_downgraded.Tie as tie
+
+downgraded-requires : tie.Need-downgraded-requires
+downgraded-requires c κs = search needs
+
+sub-t3 : tie.Need-sub-t3
+sub-t3 c = omega (arith, eqb-true _ _ (sym (c .before .downgraded .ensures) ∙ c .if1 .taken))
+
+returns : tie.Need-returns
+returns c = search cases
+
+returns-2 : tie.Need-returns-2
+returns-2 c = search cases
+
+pub clear-downgraded-spec : {M : Type 1} → statement M
+clear-downgraded-spec = tie.close (tie.spec downgraded-requires sub-t3 returns returns-2)

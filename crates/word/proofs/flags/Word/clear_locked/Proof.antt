@@ -1,0 +1,23 @@
+-- `word::flags::Word::clear_locked` meets its contract: each answer by the tests that led to it. Assumes nothing.
+use mathlib.Core.Path.{_∙_, sym}
+use borrow.Author.Tests.{eqb-true}
+use borrow.Author.Needs.{needs}
+use native.Mathlib.Omega.{arith}
+use Rattle.word.specs.Cases.{cases}
+use Rattle.word.proofs.flags.Word.clear_locked.Statement.{statement}
+use Rattle.word.proofs.flags.Word.clear_locked.Tie as tie
+
+locked-requires : tie.Need-locked-requires
+locked-requires c κs = search needs
+
+sub-t3 : tie.Need-sub-t3
+sub-t3 c = omega (arith, eqb-true _ _ (sym (c .before .locked .ensures) ∙ c .if1 .taken))
+
+returns : tie.Need-returns
+returns c = search cases
+
+returns-2 : tie.Need-returns-2
+returns-2 c = search cases
+
+pub clear-locked-spec : {M : Type 1} → statement M
+clear-locked-spec = tie.close (tie.spec locked-requires sub-t3 returns returns-2)

@@ -1,0 +1,63 @@
+-- `word::flags::Word::registered` meets its contract: each answer by the tests that led to it. Assumes nothing.
+use borrow.Author.Needs.{needs}
+use native.Mathlib.Omega.{arith}
+use Rattle.word.specs.Cases.{cases}
+use Rattle.word.proofs.flags.Word.registered.Statement.{statement}
+use Rattle.word.proofs.flags.Word.registered.Tie as tie
+
+node-requires : tie.Need-node-requires
+node-requires c κs = search needs
+
+downgraded-requires : tie.Need-downgraded-requires
+downgraded-requires c κs = search needs
+
+kept-requires : tie.Need-kept-requires
+kept-requires c κs = search needs
+
+add-flags : tie.Need-add-flags
+add-flags c = search needs
+
+locked-requires : tie.Need-locked-requires
+locked-requires c κs = search needs
+
+kept-requires-2 : tie.Need-kept-requires-2
+kept-requires-2 c κs = search needs
+
+add-flags-2 : tie.Need-add-flags-2
+add-flags-2 c = search needs
+
+queued-requires : tie.Need-queued-requires
+queued-requires c κs = search needs
+
+kept-requires-3 : tie.Need-kept-requires-3
+kept-requires-3 c κs = search needs
+
+add-flags-3 : tie.Need-add-flags-3
+add-flags-3 c = search needs
+
+mul-t5 : tie.Need-mul-t5
+mul-t5 c = omega arith
+
+add-t7 : tie.Need-add-t7
+add-t7 c = omega arith
+
+returns : tie.Need-returns
+returns c = search cases
+
+pub registered-spec : {M : Type 1} → statement M
+registered-spec =
+    tie.close
+    (tie.spec
+    node-requires
+    downgraded-requires
+    kept-requires
+    add-flags
+    locked-requires
+    kept-requires-2
+    add-flags-2
+    queued-requires
+    kept-requires-3
+    add-flags-3
+    mul-t5
+    add-t7
+    returns)

@@ -1,0 +1,5 @@
+pub mod Base
+pub mod Number
+pub mod Flags
+pub mod Rules
+pub mod Cases
