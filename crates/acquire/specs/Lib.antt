@@ -1,0 +1,4 @@
+pub mod TryRead
+pub mod TryWrite
+pub mod LockContended
+pub mod Wait

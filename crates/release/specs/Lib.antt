@@ -1,0 +1,6 @@
+pub mod WalkHead
+pub mod UnlockQueue
+pub mod ReadUnlock
+pub mod WriteUnlock
+pub mod UnlockContended
+pub mod Downgrade

@@ -1,0 +1,2 @@
+pub mod FindTail
+pub mod CompleteAll
