@@ -39,7 +39,7 @@ module _ (f n : ℕ) (some : 0 < f) where
   taken-off odd =
       record {
         above = omega (arith, div-eq-sub-div some (at-least odd));
-        below = sym (mod-eq-sub-mod (at-least odd))
+        below = sym (mod-eq-sub-mod (at-least odd));
       }
 
 -- the part above a flag
