@@ -17,6 +17,11 @@ pub pick-no : {A : Type 0} (b : Bool) (r x y : A) → b ≡ false → r ≡ y �
 pick-no true r x y e q = absurd (subst (λ (t : Bool). lib.Dec.T t) e tt)
 pick-no false r x y e q = q
 
+-- in each case with what its test says
+pub pick-both : {A : Type 0} (P : A → Type 0) (b : Bool) (x y : A) → (b ≡ true → P x) → (b ≡ false → P y) → P (pick b x y)
+pick-both P true x y p q = p refl
+pick-both P false x y p q = q refl
+
 pub told : (r t v : Bool) → r ≡ t → r ≡ v → t ≡ v
 told r t v p q = sym p ∙ q
 

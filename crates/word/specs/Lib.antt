@@ -1,5 +1,7 @@
 pub mod Base
+pub mod Bits
 pub mod Number
 pub mod Flags
 pub mod Rules
 pub mod Cases
+pub mod Laws

@@ -7,9 +7,13 @@ pub struct Word(pub u64);
 
 impl Word {
     pub const LOCKED: u64 = 1;
+
     pub const QUEUED: u64 = 2;
+
     pub const QUEUE_LOCKED: u64 = 4;
+
     pub const DOWNGRADED: u64 = 8;
+
     pub const SINGLE: u64 = 16;
 
     pub fn locked(self) -> bool

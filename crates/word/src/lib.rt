@@ -9,10 +9,15 @@
 //     16 * n + QUEUED + ..     node n is the newest waiter; the oldest waiter's next has the reader count
 //
 // Thread t, from 0, owns node t + 1: thread number, node number and word are three types.
-pub mod number;
 pub mod flags;
+pub mod number;
 pub mod rules;
 
-pub use number::{NodeNumber, Owner, Slot, ThreadNumber};
 pub use flags::Word;
-pub use rules::{ReadLocked, ReadUnlocked, WriteLocked};
+pub use number::NodeNumber;
+pub use number::Owner;
+pub use number::Slot;
+pub use number::ThreadNumber;
+pub use rules::ReadLocked;
+pub use rules::ReadUnlocked;
+pub use rules::WriteLocked;

@@ -32,7 +32,7 @@ impl NodeNumber {
     pub fn is_none(self) -> bool
         ensures { λ r. ⌜ r ≡ isNone self ⌝ }
     {
-        self.0 == 0
+        self.0 == NodeNumber::NONE.0
     }
 
     pub fn owner(self) -> Owner

@@ -36,6 +36,7 @@ fn kept(keep: bool, flag: u64) -> u64
 
 impl Word {
     pub const FREE: Word = Word(0);
+
     pub const MOST: u64 = 0xffff_ffff_ffff_ffff;
 
     pub fn write_lock(self) -> WriteLocked
@@ -101,8 +102,8 @@ impl Word {
         ensures { λ r. ⌜ r ≡ takenOf self ⌝ }
     {
         if self.downgraded() {
-            return Word(17);
+            return ONE_READER;
         }
-        Word(0)
+        Word::FREE
     }
 }

@@ -1,9 +1,7 @@
--- `word::flags::Word::clear_locked` meets its contract: each answer by the tests that led to it. Assumes nothing.
-use mathlib.Core.Path.{_∙_, sym}
-use borrow.Author.Tests.{eqb-true}
+-- `word::flags::Word::clear_locked` meets its contract: a word with the flag is at least the flag. Assumes nothing.
 use borrow.Author.Needs.{needs}
-use native.Mathlib.Omega.{arith}
-use Rattle.word.specs.Cases.{cases}
+use Rattle.word.specs.Cases.{cases, told}
+use Rattle.word.specs.Laws.{flag-least}
 use Rattle.word.proofs.flags.Word.clear_locked.Statement.{statement}
 use Rattle.word.proofs.flags.Word.clear_locked.Tie as tie
 
@@ -11,7 +9,7 @@ locked-requires : tie.Need-locked-requires
 locked-requires c κs = search needs
 
 sub-t3 : tie.Need-sub-t3
-sub-t3 c = omega (arith, eqb-true _ _ (sym (c .before .locked .ensures) ∙ c .if1 .taken))
+sub-t3 c = search (flag-least, told)
 
 returns : tie.Need-returns
 returns c = search cases

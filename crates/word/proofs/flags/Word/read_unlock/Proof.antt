@@ -17,7 +17,7 @@ clear-locked-requires : tie.Need-clear-locked-requires
 clear-locked-requires c κs = search needs
 
 returns : tie.Need-returns
-returns c = search cases
+returns c = simp (c .clear-locked .ensures, c .before .clear-downgraded .ensures) (search cases)
 
 returns-2 : tie.Need-returns-2
 returns-2 c = search cases
@@ -35,7 +35,7 @@ sub-t10 : tie.Need-sub-t10
 sub-t10 c = search needs
 
 returns-4 : tie.Need-returns-4
-returns-4 c = search cases
+returns-4 c = let same = c .if4 .taken in simp same (search cases)
 
 set-locked-requires : tie.Need-set-locked-requires
 set-locked-requires c κs = search needs

@@ -36,13 +36,16 @@ add-flags-3 : tie.Need-add-flags-3
 add-flags-3 c = search needs
 
 mul-t5 : tie.Need-mul-t5
-mul-t5 c = omega arith
+mul-t5 c = simp (c .before .before .before .before .before .before .before .node .ensures) (omega arith)
 
 add-t7 : tie.Need-add-t7
-add-t7 c = omega arith
+add-t7 c = simp (c .before .before .before .before .before .before .before .node .ensures) (omega arith)
 
 returns : tie.Need-returns
-returns c = search cases
+returns c =
+    let d = c .before .before .before .before .before in
+    let l = c .before .before .before in
+    simp (c .before .before .before .before .before .before .before .node .ensures, d .kept .ensures .0, d .before .downgraded .ensures, l .kept2 .ensures .0, l .before .locked .ensures, c .before .kept3 .ensures .0, c .before .before .queued .ensures)
 
 pub registered-spec : {M : Type 1} → statement M
 registered-spec =

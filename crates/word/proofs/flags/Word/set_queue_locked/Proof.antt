@@ -1,9 +1,8 @@
--- `word::flags::Word::set_queue_locked` meets its contract: each answer by the tests that led to it. Assumes nothing.
-use mathlib.Core.Path.{_∙_, sym}
-use borrow.Author.Tests.{eqb-false}
-use borrow.Author.Needs.{needs}
+-- `word::flags::Word::set_queue_locked` meets its contract: a word without the flag has room for it. Assumes nothing.
 use native.Mathlib.Omega.{arith}
-use Rattle.word.specs.Cases.{cases}
+use borrow.Author.Needs.{needs}
+use Rattle.word.specs.Cases.{cases, told}
+use Rattle.word.specs.Laws.{flag-room}
 use Rattle.word.proofs.flags.Word.set_queue_locked.Statement.{statement}
 use Rattle.word.proofs.flags.Word.set_queue_locked.Tie as tie
 
@@ -14,7 +13,7 @@ returns : tie.Need-returns
 returns c = search cases
 
 add-t3 : tie.Need-add-t3
-add-t3 c = omega (arith, eqb-false _ _ (sym (c .before .before .queue-locked .ensures) ∙ c .before .if1 .left))
+add-t3 c = search (flag-room, told, arith)
 
 returns-2 : tie.Need-returns-2
 returns-2 c = search cases
