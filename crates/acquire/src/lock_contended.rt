@@ -1,8 +1,18 @@
 // lock_contended: load and judge the word; take the lock, reload, or fill the node and register it.
 ghost use mathlib.Core.Path.{_≡_};
 ghost use Rattle.acquire.specs.LockContended.{permittedOf, grantedOf, fillOf, reloadOrFill, contendJudged, contendLoadOf, contendCasOf, afterRegister, registerCasOf};
-use state::{Answer, Holding, Next, Node, Place, Stepped, View, Walk, Who};
-use word::{ReadLocked, Word, WriteLocked};
+use state::Answer;
+use state::Holding;
+use state::Next;
+use state::Node;
+use state::Place;
+use state::Stepped;
+use state::View;
+use state::Walk;
+use state::Who;
+use word::ReadLocked;
+use word::Word;
+use word::WriteLocked;
 
 // queue.rs reloads the word so many times before it queues.
 pub const SPIN_COUNT: u8 = 7;
@@ -13,7 +23,7 @@ pub enum Permitted {
     Refused,
 }
 
-fn permitted(writer: bool, seen: Word) -> Permitted
+fn lock_rule(writer: bool, seen: Word) -> Permitted
     ensures { λ r. ⌜ r ≡ permittedOf writer seen ⌝ }
 {
     if writer {
@@ -71,7 +81,7 @@ fn reload_or_fill(v: View, writer: bool, reloads: u8, seen: Word) -> Stepped
 fn contend_judged(v: View, writer: bool, reloads: u8, seen: Word) -> Stepped
     ensures { λ r. ⌜ r ≡ contendJudged v writer reloads seen ⌝ }
 {
-    match permitted(writer, seen) {
+    match lock_rule(writer, seen) {
         Permitted::To(_) => v.stays(Next::at(Place::ContendCas {
             writer: writer,
             reloads: reloads,
@@ -91,7 +101,7 @@ pub fn contend_cas(v: View, writer: bool, reloads: u8, seen: Word) -> Stepped
     ensures { λ r. ⌜ r ≡ contendCasOf v writer reloads seen ⌝ }
 {
     if v.agrees(seen) {
-        return match permitted(writer, seen) {
+        return match lock_rule(writer, seen) {
             Permitted::To(to) => {
                 let h = v.holding;
                 v.writes(to, granted(writer, h), Next::end(Answer::Done))

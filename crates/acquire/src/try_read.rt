@@ -1,8 +1,13 @@
 // try_read, and the first attempt of read: load, then weak compare to read_lock, retried on the word reported.
 ghost use mathlib.Core.Path.{_≡_};
 ghost use Rattle.acquire.specs.TryRead.{tryReadRefused, tryReadJudged, tryReadLoadOf, tryReadCasOf, tryReadDone};
-use state::{Answer, Next, Place, Stepped, View};
-use word::{ReadLocked, Word};
+use state::Answer;
+use state::Next;
+use state::Place;
+use state::Stepped;
+use state::View;
+use word::ReadLocked;
+use word::Word;
 
 // read_lock refuses: read contends, try_read ends with no.
 fn try_read_refused(blocking: bool) -> Next

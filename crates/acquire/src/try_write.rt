@@ -1,7 +1,11 @@
 // try_write, and the first attempt of write: one fetch-or of LOCKED.
 ghost use mathlib.Core.Path.{_≡_};
 ghost use Rattle.acquire.specs.TryWrite.{tryWriteRefused, tryWriteDone, tryWriteOrOf};
-use state::{Answer, Next, Place, Stepped, View};
+use state::Answer;
+use state::Next;
+use state::Place;
+use state::Stepped;
+use state::View;
 
 // The lock is taken: write contends, try_write ends with no.
 fn try_write_refused(blocking: bool) -> Next

@@ -1,7 +1,10 @@
 // Node::wait: load completed; while it is clear, park and load again.
 ghost use mathlib.Core.Path.{_≡_};
 ghost use Rattle.acquire.specs.Wait.{completedLoadOf, parkOf};
-use state::{Next, Place, Stepped, View};
+use state::Next;
+use state::Place;
+use state::Stepped;
+use state::View;
 
 // Completed: start again, with a load of its own and no reloads.
 pub fn completed_load(v: View, writer: bool) -> Stepped

@@ -1,4 +1,4 @@
-pub mod WalkHead
+pub mod AfterWalk
 pub mod UnlockQueue
 pub mod ReadUnlock
 pub mod WriteUnlock

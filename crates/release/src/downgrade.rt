@@ -1,7 +1,12 @@
 // downgrade and downgrade_slow: the writer becomes a reader, and the waiters are woken by it or by the queue-lock owner.
 ghost use mathlib.Core.Path.{_≡_};
 ghost use Rattle.release.specs.Downgrade.{downgradeCasOf, downgradedWord, afterDowngrade, downgradeSlowCasOf};
-use state::{Answer, Next, Place, Stepped, View, Walk};
+use state::Answer;
+use state::Next;
+use state::Place;
+use state::Stepped;
+use state::View;
+use state::Walk;
 use word::Word;
 
 pub fn downgrade_cas(v: View) -> Stepped
@@ -10,7 +15,11 @@ pub fn downgrade_cas(v: View) -> Stepped
     let w = v.word;
     if w.0 == Word::LOCKED {
         let h = v.holding;
-        return v.writes(Word(Word::SINGLE + Word::LOCKED), h.downgraded(), Next::end(Answer::Done));
+        return v.writes(
+            Word(Word::SINGLE + Word::LOCKED),
+            h.downgraded(),
+            Next::end(Answer::Done),
+        );
     }
     v.stays(Next::at(Place::DowngradeSlowCas { seen: w }))
 }
@@ -42,5 +51,6 @@ pub fn downgrade_slow_cas(v: View, seen: Word) -> Stepped
         let h = v.holding;
         return v.writes(downgraded_word(seen), h.downgraded(), after_downgrade(seen));
     }
-    v.stays(Next::at(Place::DowngradeSlowCas { seen: v.word }))
+    let reported = v.word;
+    v.stays(Next::at(Place::DowngradeSlowCas { seen: reported }))
 }

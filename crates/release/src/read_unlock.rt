@@ -1,8 +1,16 @@
 // read_unlock and read_unlock_contended: the count goes down in the word, or in the oldest waiter's next.
 ghost use mathlib.Core.Path.{_≡_};
 ghost use Rattle.release.specs.ReadUnlock.{readUnlockJudged, readUnlockLoadOf, readUnlockCasOf, afterSubtract, subtractOf};
-use state::{Answer, Next, Place, Refusal, Stepped, View, Walk};
-use word::{NodeNumber, ReadUnlocked, Word};
+use state::Answer;
+use state::Next;
+use state::Place;
+use state::Refusal;
+use state::Stepped;
+use state::View;
+use state::Walk;
+use word::NodeNumber;
+use word::ReadUnlocked;
+use word::Word;
 
 fn read_unlock_judged(v: View, seen: Word) -> Stepped
     ensures { λ r. ⌜ r ≡ readUnlockJudged v seen ⌝ }

@@ -1,7 +1,13 @@
 // unlock_contended: release the lock, and take the queue lock with it unless somebody has it.
 ghost use mathlib.Core.Path.{_≡_};
 ghost use Rattle.release.specs.UnlockContended.{releasedTo, afterRelease, releaseCasOf};
-use state::{Answer, Next, Place, Stepped, View, Walk, Who};
+use state::Answer;
+use state::Next;
+use state::Place;
+use state::Stepped;
+use state::View;
+use state::Walk;
+use state::Who;
 use word::Word;
 
 // The word that releases the one seen.
@@ -33,5 +39,6 @@ pub fn release_cas(v: View, seen: Word) -> Stepped
         let h = v.holding;
         return v.writes(to, h.released_write(), after_release(seen, to));
     }
-    v.stays(Next::at(Place::ReleaseCas { seen: v.word }))
+    let reported = v.word;
+    v.stays(Next::at(Place::ReleaseCas { seen: reported }))
 }

@@ -1,8 +1,14 @@
 // unlock_queue after its walk: release the queue lock, split the tail off, or take the whole queue.
 ghost use mathlib.Core.Path.{_≡_};
 ghost use Rattle.release.specs.UnlockQueue.{walkAgain, queueCasOf, splitPrevOf, splitStoreOf, splitCasOf, splitRestoreOf, takeCasOf};
-use state::{Next, Place, Stepped, View, Walk, Who};
-use word::{NodeNumber, Word};
+use state::Next;
+use state::Place;
+use state::Stepped;
+use state::View;
+use state::Walk;
+use state::Who;
+use word::NodeNumber;
+use word::Word;
 
 // Every failure finds the tail again, from the word reported.
 fn walk_again(v: View, who: Who) -> Stepped
@@ -73,11 +79,12 @@ pub fn split_cas(v: View, who: Who, seen: Word, tail: NodeNumber) -> Stepped
             }),
         );
     }
+    let reported = v.word;
     v.stays(Next::at(Place::SplitRestore {
         who: who,
         seen: seen,
         tail: tail,
-        reported: v.word,
+        reported: reported,
     }))
 }
 

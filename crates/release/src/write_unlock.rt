@@ -1,7 +1,11 @@
 // write_unlock: strong compare 1 to 0, else release.
 ghost use mathlib.Core.Path.{_≡_};
 ghost use Rattle.release.specs.WriteUnlock.{writeUnlockCasOf};
-use state::{Answer, Next, Place, Stepped, View};
+use state::Answer;
+use state::Next;
+use state::Place;
+use state::Stepped;
+use state::View;
 use word::Word;
 
 pub fn write_unlock_cas(v: View) -> Stepped

@@ -2,7 +2,8 @@
 ghost use mathlib.Core.Path.{_≡_};
 ghost use Rattle.state.specs.Access.{accessOf, touchedOf, atWordOf, loadOf, storeOf};
 use crate::place::Place;
-use word::{NodeNumber, ThreadNumber};
+use word::NodeNumber;
+use word::ThreadNumber;
 
 pub enum Kind {
     Nothing,
@@ -69,28 +70,85 @@ impl Access {
                 location: Location::Nowhere,
             },
             Place::TryReadLoad { blocking: _ } => at_word(Kind::Load),
-            Place::TryReadCas { blocking: _, seen: _ } => at_word(Kind::WeakCompare),
+            Place::TryReadCas {
+                blocking: _,
+                seen: _,
+            } => at_word(Kind::WeakCompare),
             Place::TryWriteOr { blocking: _ } => at_word(Kind::FetchOr),
-            Place::ContendLoad { writer: _, reloads: _ } => at_word(Kind::Load),
-            Place::ContendCas { writer: _, reloads: _, seen: _ } => at_word(Kind::WeakCompare),
-            Place::RegisterCas { writer: _, reloads: _, seen: _ } => at_word(Kind::WeakCompare),
+            Place::ContendLoad {
+                writer: _,
+                reloads: _,
+            } => at_word(Kind::Load),
+            Place::ContendCas {
+                writer: _,
+                reloads: _,
+                seen: _,
+            } => at_word(Kind::WeakCompare),
+            Place::RegisterCas {
+                writer: _,
+                reloads: _,
+                seen: _,
+            } => at_word(Kind::WeakCompare),
             Place::CompletedLoad { writer: _ } => load(Location::Completed(me.node())),
             Place::Park { writer: _ } => Access {
                 kind: Kind::Park,
                 location: Location::Token(me),
             },
-            Place::WalkTail { walk: _, seen: _, current } => load(Location::Tail(current)),
-            Place::WalkNext { walk: _, seen: _, current } => load(Location::Next(current)),
-            Place::WalkPrev { walk: _, seen: _, current: _, next } => store(Location::Prev(next)),
-            Place::WalkHead { walk: _, seen, tail: _ } => store(Location::Tail(seen.to_node())),
+            Place::WalkTail {
+                walk: _,
+                seen: _,
+                current,
+            } => load(Location::Tail(current)),
+            Place::WalkNext {
+                walk: _,
+                seen: _,
+                current,
+            } => load(Location::Next(current)),
+            Place::WalkPrev {
+                walk: _,
+                seen: _,
+                current: _,
+                next,
+            } => store(Location::Prev(next)),
+            Place::WalkHead {
+                walk: _,
+                seen,
+                tail: _,
+            } => store(Location::Tail(seen.to_node())),
             Place::QueueCas { who: _, seen: _ } => at_word(Kind::WeakCompare),
-            Place::SplitPrev { who: _, seen: _, tail } => load(Location::Prev(tail)),
-            Place::SplitStore { who: _, seen, tail: _, prev: _ } => store(Location::Tail(seen.to_node())),
-            Place::SplitCas { who: _, seen: _, tail: _ } => at_word(Kind::WeakCompare),
-            Place::SplitRestore { who: _, seen, tail: _, reported: _ } => store(Location::Tail(seen.to_node())),
-            Place::TakeCas { who: _, seen: _, tail: _ } => at_word(Kind::WeakCompare),
+            Place::SplitPrev {
+                who: _,
+                seen: _,
+                tail,
+            } => load(Location::Prev(tail)),
+            Place::SplitStore {
+                who: _,
+                seen,
+                tail: _,
+                prev: _,
+            } => store(Location::Tail(seen.to_node())),
+            Place::SplitCas {
+                who: _,
+                seen: _,
+                tail: _,
+            } => at_word(Kind::WeakCompare),
+            Place::SplitRestore {
+                who: _,
+                seen,
+                tail: _,
+                reported: _,
+            } => store(Location::Tail(seen.to_node())),
+            Place::TakeCas {
+                who: _,
+                seen: _,
+                tail: _,
+            } => at_word(Kind::WeakCompare),
             Place::WakePrev { who: _, current } => load(Location::Prev(current)),
-            Place::WakeStore { who: _, current, prev: _ } => Access {
+            Place::WakeStore {
+                who: _,
+                current,
+                prev: _,
+            } => Access {
                 kind: Kind::Complete,
                 location: Location::Completed(current),
             },

@@ -11,18 +11,35 @@
 // A thread is idle or at a place: one case for each access site of queue.rs, with the values that the code holds there.
 // An event makes the access of its thread's place and runs the local code up to the next one. What it may look at is a
 // View; what it did is a Change: the word, one node, the thread's own record, and one token by waking.
-pub mod node;
-pub mod holding;
-pub mod place;
 pub mod access;
 pub mod answer;
+pub mod holding;
 pub mod machine;
+pub mod node;
+pub mod place;
 pub mod view;
 
-pub use access::{Access, Kind, Location};
-pub use answer::{Answer, Refusal, Reply, Text, Verdict};
+pub use access::Access;
+pub use access::Kind;
+pub use access::Location;
+pub use answer::Answer;
+pub use answer::Refusal;
+pub use answer::Reply;
+pub use answer::Text;
+pub use answer::Verdict;
 pub use holding::Holding;
-pub use machine::{good_count, Fresh, Machine, Outcome, Thread, THREADS};
+pub use machine::Fresh;
+pub use machine::Machine;
+pub use machine::Outcome;
+pub use machine::THREADS;
+pub use machine::Thread;
+pub use machine::good_count;
 pub use node::Node;
-pub use place::{Place, Walk, Who};
-pub use view::{Change, Mark, Next, Stepped, View};
+pub use place::Place;
+pub use place::Walk;
+pub use place::Who;
+pub use view::Change;
+pub use view::Mark;
+pub use view::Next;
+pub use view::Stepped;
+pub use view::View;

@@ -2,7 +2,9 @@
 ghost use mathlib.Core.Path.{_≡_};
 ghost use Prim.Native.Nat.{_≤_};
 ghost use Rattle.state.specs.Machine.{goodCount, blankThread, madeOf, freshOf, refusedOf};
-use crate::answer::{Refusal, Reply, Verdict};
+use crate::answer::Refusal;
+use crate::answer::Reply;
+use crate::answer::Verdict;
 use crate::holding::Holding;
 use crate::node::Node;
 use crate::place::Place;

@@ -1,7 +1,9 @@
 // A waiter's node. The thread handle of queue.rs is the node's owner, by number.
 ghost use mathlib.Core.Path.{_≡_};
 ghost use Rattle.state.specs.Node.{blankNode, filledOf, withNext, withPrev, withTail, withCompleted};
-use word::{NodeNumber, ThreadNumber, Word};
+use word::NodeNumber;
+use word::ThreadNumber;
+use word::Word;
 
 pub struct Node {
     // A word without flags: a link to the next older node; in the oldest, 16 times the readers.

@@ -1,12 +1,17 @@
 // What a step may look at, and what it did.
 ghost use mathlib.Core.Path.{_≡_};
 ghost use Rattle.state.specs.View.{agreesOf, at, end, afterQueue, walkFrom, changedOf, stays, writes, links, subtracts, completes, parks};
-use crate::answer::{Answer, Refusal};
+use crate::answer::Answer;
+use crate::answer::Refusal;
 use crate::holding::Holding;
 use crate::machine::Thread;
 use crate::node::Node;
-use crate::place::{Place, Walk, Who};
-use word::{Owner, ThreadNumber, Word};
+use crate::place::Place;
+use crate::place::Walk;
+use crate::place::Who;
+use word::Owner;
+use word::ThreadNumber;
+use word::Word;
 
 // The writer mark of the tail that a walk found, where that tail is a node of the machine.
 pub enum Mark {
@@ -90,7 +95,14 @@ impl Next {
     }
 }
 
-fn changed(word: Word, node: Node, token: bool, holding: Holding, woken: Owner, next: Next) -> Stepped
+fn changed(
+    word: Word,
+    node: Node,
+    token: bool,
+    holding: Holding,
+    woken: Owner,
+    next: Next,
+) -> Stepped
     ensures { λ r. ⌜ r ≡ changedOf word node token holding woken next ⌝ }
 {
     let place = next.place;

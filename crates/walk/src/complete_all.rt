@@ -1,7 +1,11 @@
 // From the tail back by prev, completing each node. prev is read before the node is completed: its owner may refill it.
 ghost use mathlib.Core.Path.{_≡_};
 ghost use Rattle.walk.specs.CompleteAll.{wakePrevOf, wakeStoreOf};
-use state::{Next, Place, Stepped, View, Who};
+use state::Next;
+use state::Place;
+use state::Stepped;
+use state::View;
+use state::Who;
 use word::NodeNumber;
 
 // Load current's prev.

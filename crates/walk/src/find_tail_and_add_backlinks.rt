@@ -1,9 +1,14 @@
 // From a head along next to the first node whose tail is set, adding prev on the way. The store of that tail in the head,
-// which is the walk's last access, is with what the walk was for (crate release, walk_head).
+// which is the walk's last access, is with what the walk was for (crate release, after_walk).
 ghost use mathlib.Core.Path.{_≡_};
 ghost use Rattle.walk.specs.FindTail.{walkTailOf, walkNextOf, walkPrevOf};
-use state::{Next, Place, Stepped, View, Walk};
-use word::{NodeNumber, Word};
+use state::Next;
+use state::Place;
+use state::Stepped;
+use state::View;
+use state::Walk;
+use word::NodeNumber;
+use word::Word;
 
 // Load current's tail: set, it goes into the head; none, on by next.
 pub fn walk_tail(v: View, walk: Walk, seen: Word, current: NodeNumber) -> Stepped

@@ -1,9 +1,18 @@
 // The last access of find_tail_and_add_backlinks, the store of the tail in the head, and the caller's local code that
 // follows it in the same step.
 ghost use mathlib.Core.Path.{_≡_};
-ghost use Rattle.release.specs.WalkHead.{tailMarked, tailFound, walkedOf, walkHeadOf};
-use state::{Mark, Next, Node, Place, Refusal, Stepped, View, Walk, Who};
-use word::{NodeNumber, Word};
+ghost use Rattle.release.specs.AfterWalk.{tailMarked, tailFound, walkedOf, walkHeadOf};
+use state::Mark;
+use state::Next;
+use state::Node;
+use state::Place;
+use state::Refusal;
+use state::Stepped;
+use state::View;
+use state::Walk;
+use state::Who;
+use word::NodeNumber;
+use word::Word;
 
 // unlock_queue wakes the tail alone where it is a writer's and no downgrade is asked for; else all.
 fn tail_marked(v: View, node: Node, who: Who, seen: Word, tail: NodeNumber) -> Stepped
