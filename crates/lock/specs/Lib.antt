@@ -1,0 +1,6 @@
+pub mod Code
+pub mod Begin
+pub mod Advance
+pub mod Landed
+pub mod Step
+pub mod Event

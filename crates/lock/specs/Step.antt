@@ -1,0 +1,123 @@
+-- A step, code 16, or a step that fails for no cause, code 17: refusals 5, 6, 7, then 8, then the rule of the place. Assumes nothing.
+use Prim.Native.Nat.{ℕ}
+use mathlib.Core.Bool.{Bool, true, false}
+use Rattle.word.specs.Base.{pick}
+use Rattle.word.specs.Number.{none, slotOf}
+use Rattle.word.specs.declared.number.ThreadNumber.{ThreadNumber}
+use Rattle.word.specs.declared.number.NodeNumber.{NodeNumber}
+use Rattle.word.specs.declared.number.Slot.{Slot}
+use Rattle.word.specs.declared.number.Slot.the-variants.{Outside, At}
+use Rattle.state.specs.Access.{accessOf, touchedOf}
+use Rattle.state.specs.Machine.{threadAt, nodeAt, refusedOf}
+use Rattle.state.specs.declared.access.Access.{Access}
+use Rattle.state.specs.declared.access.Kind.{Kind}
+use Rattle.state.specs.declared.access.Kind.the-variants.{Nothing, Load, Store, WeakCompare, StrongCompare, FetchOr, Subtract as Subtracting, Complete, Park as Parking}
+use Rattle.state.specs.declared.answer.Refusal.the-variants.{NotInCall, NoToken, CannotFail, Damaged}
+use Rattle.state.specs.declared.answer.Verdict.{Verdict}
+use Rattle.state.specs.declared.answer.Verdict.the-variants.{Fine, Refused}
+use Rattle.state.specs.declared.machine.Machine.{Machine}
+use Rattle.state.specs.declared.machine.Outcome.{Outcome}
+use Rattle.state.specs.declared.place.Place.{Place}
+use Rattle.state.specs.declared.place.Place.the-variants.{Idle, TryReadLoad, TryReadCas, TryWriteOr, ContendLoad, ContendCas, RegisterCas, CompletedLoad, Park, WalkTail, WalkNext, WalkPrev, WalkHead, QueueCas, SplitPrev, SplitStore, SplitCas, SplitRestore, TakeCas, WakePrev, WakeStore, ReadUnlockLoad, ReadUnlockCas, Subtract, WriteUnlockCas, ReleaseCas, DowngradeCas, DowngradeSlowCas}
+use Rattle.state.specs.declared.view.Mark.{Mark}
+use Rattle.state.specs.declared.view.Mark.the-variants.{Missing, Reader, Writer}
+use Rattle.state.specs.declared.view.View.{View}
+use Rattle.lock.specs.Advance.{advanceOf}
+use Rattle.lock.specs.Landed.{landedOf}
+
+-- 7: code 17 at an access that is neither a weak compare nor park
+abbrev pub failingOf : Bool → Verdict
+failingOf fails = pick fails (Refused CannotFail) Fine
+
+-- 6: code 16 at park without a token
+abbrev pub parkingOf : Bool → Bool → Verdict
+parkingOf token fails = pick fails Fine (pick token Fine (Refused NoToken))
+
+-- 5 on an idle thread, then 6, then 7, by the kind of access alone
+abbrev pub haltedOf : Kind → Bool → Bool → Verdict
+haltedOf Nothing token fails = Refused NotInCall
+haltedOf Parking token fails = parkingOf token fails
+haltedOf WeakCompare token fails = Fine
+haltedOf Load token fails = failingOf fails
+haltedOf Store token fails = failingOf fails
+haltedOf StrongCompare token fails = failingOf fails
+haltedOf FetchOr token fails = failingOf fails
+haltedOf Subtracting token fails = failingOf fails
+haltedOf Complete token fails = failingOf fails
+
+-- the tail whose writer mark the local code reads, after the store of the tail in the head
+unfoldable pub markedOf : Place → NodeNumber
+markedOf Idle = none
+markedOf (TryReadLoad _) = none
+markedOf (TryReadCas _ _) = none
+markedOf (TryWriteOr _) = none
+markedOf (ContendLoad _ _) = none
+markedOf (ContendCas _ _ _) = none
+markedOf (RegisterCas _ _ _) = none
+markedOf (CompletedLoad _) = none
+markedOf (Park _) = none
+markedOf (WalkTail _ _ _) = none
+markedOf (WalkNext _ _ _) = none
+markedOf (WalkPrev _ _ _ _) = none
+markedOf (WalkHead walk seen tail) = tail
+markedOf (QueueCas _ _) = none
+markedOf (SplitPrev _ _ _) = none
+markedOf (SplitStore _ _ _ _) = none
+markedOf (SplitCas _ _ _) = none
+markedOf (SplitRestore _ _ _ _) = none
+markedOf (TakeCas _ _ _) = none
+markedOf (WakePrev _ _) = none
+markedOf (WakeStore _ _ _) = none
+markedOf ReadUnlockLoad = none
+markedOf (ReadUnlockCas _) = none
+markedOf (Subtract _ _) = none
+markedOf WriteUnlockCas = none
+markedOf (ReleaseCas _) = none
+markedOf DowngradeCas = none
+markedOf (DowngradeSlowCas _) = none
+
+abbrev pub markAt : Machine → ℕ → Mark
+markAt m k = pick (nodeAt m k .writer) Writer Reader
+
+abbrev pub markBy : Machine → Slot → Mark
+markBy m Outside = Missing
+markBy m (At k) = markAt m k
+
+abbrev pub markOf : Machine → NodeNumber → Mark
+markOf m tail = markBy m (slotOf tail (m .count))
+
+-- what the step may look at: the word, node k, the mark, and the thread's own record
+abbrev pub viewOf : Machine → ThreadNumber → ℕ → Bool → View
+viewOf m me k fails =
+    record {
+      me = me;
+      word = m .word;
+      node = nodeAt m k;
+      mark = markOf m (markedOf (threadAt m (me .0) .place));
+      token = threadAt m (me .0) .token;
+      holding = threadAt m (me .0) .holding;
+      fails = fails;
+    }
+
+abbrev pub reachedOf : Machine → ThreadNumber → ℕ → Bool → Outcome
+reachedOf m me k fails =
+    landedOf m (me .0) k (advanceOf (viewOf m me k fails) (threadAt m (me .0) .place))
+
+-- 8: the access would touch a node outside 1..count
+abbrev pub touchingBy : Machine → ThreadNumber → Bool → Slot → Outcome
+touchingBy m me fails Outside = refusedOf m Damaged
+touchingBy m me fails (At k) = reachedOf m me k fails
+
+abbrev pub touchingOf : Machine → ThreadNumber → Access → Bool → Outcome
+touchingOf m me access fails = touchingBy m me fails (slotOf (touchedOf access me) (m .count))
+
+abbrev pub stepBy : Machine → ThreadNumber → Bool → Verdict → Outcome
+stepBy m me fails (Refused r) = refusedOf m r
+stepBy m me fails Fine = touchingOf m me (accessOf me (threadAt m (me .0) .place)) fails
+
+unfoldable pub stepOf : Machine → ThreadNumber → Bool → Outcome
+stepOf m me fails =
+    stepBy m
+    me
+    fails
+    (haltedOf (accessOf me (threadAt m (me .0) .place) .kind) (threadAt m (me .0) .token) fails)

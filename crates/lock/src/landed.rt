@@ -1,0 +1,94 @@
+// What a step did is stored in the machine: the word, one node, the thread's record, and then the token of the thread
+// woken, which may be the same one.
+ghost use mathlib.Core.Path.{_≡_};
+ghost use Prim.Native.Nat.{_<_};
+ghost use Rattle.state.specs.Machine.{threadLimit};
+ghost use Rattle.lock.specs.Landed.{tokenedOf, wokenOf, storedOf, appliedOf, landedOf, tokenSet};
+use state::{Change, Machine, Outcome, Reply, Stepped, Thread, THREADS};
+use word::{Owner, ThreadNumber};
+
+fn tokened(t: Thread) -> Thread
+    ensures { λ r. ⌜ r ≡ tokenedOf t ⌝ }
+{
+    let place = t.place;
+    let holding = t.holding;
+    Thread {
+        place: place,
+        token: true,
+        holding: holding,
+    }
+}
+
+fn set_token(m: Machine, thread: ThreadNumber) -> Machine
+    ensures { λ r. ⌜ r ≡ tokenSet m thread ⌝ }
+{
+    let i = thread.0 as usize;
+    if i < THREADS {
+        let t = m.threads[i];
+        let w = m.word;
+        let nodes = m.nodes;
+        let mut threads = m.threads;
+        threads[i] = tokened(t);
+        return Machine {
+            count: m.count,
+            word: w,
+            nodes: nodes,
+            threads: threads,
+        };
+    }
+    m
+}
+
+fn wake(m: Machine, woken: Owner) -> Machine
+    ensures { λ r. ⌜ r ≡ wokenOf m woken ⌝ }
+{
+    match woken {
+        Owner::Nobody => m,
+        Owner::Thread(t) => set_token(m, t),
+    }
+}
+
+fn stored(m: Machine, i: usize, k: usize, c: Change) -> Machine
+    requires { ⌜ (i < threadLimit) × (k < threadLimit) ⌝ }
+    ensures { λ r. ⌜ r ≡ storedOf m i k c ⌝ }
+{
+    let w = c.word;
+    let n = c.node;
+    let t = c.thread;
+    let mut nodes = m.nodes;
+    nodes[k] = n;
+    let mut threads = m.threads;
+    threads[i] = t;
+    Machine {
+        count: m.count,
+        word: w,
+        nodes: nodes,
+        threads: threads,
+    }
+}
+
+fn applied(m: Machine, i: usize, k: usize, c: Change) -> Outcome
+    requires { ⌜ (i < threadLimit) × (k < threadLimit) ⌝ }
+    ensures { λ r. ⌜ r ≡ appliedOf m i k c ⌝ }
+{
+    let answer = c.answer;
+    let woken = c.woken;
+    Outcome {
+        machine: wake(stored(m, i, k, c), woken),
+        reply: Reply::Accepted {
+            answer: answer,
+            woken: woken,
+        },
+    }
+}
+
+// A refused step leaves the machine as it was.
+pub(crate) fn land(m: Machine, i: usize, k: usize, stepped: Stepped) -> Outcome
+    requires { ⌜ (i < threadLimit) × (k < threadLimit) ⌝ }
+    ensures { λ r. ⌜ r ≡ landedOf m i k stepped ⌝ }
+{
+    match stepped {
+        Stepped::To(c) => applied(m, i, k, c),
+        Stepped::Refused(r) => m.refused(r),
+    }
+}
