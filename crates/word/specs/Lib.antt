@@ -5,3 +5,4 @@ pub mod Flags
 pub mod Rules
 pub mod Cases
 pub mod Laws
+pub mod Table
