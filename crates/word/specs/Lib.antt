@@ -6,3 +6,4 @@ pub mod Rules
 pub mod Cases
 pub mod Laws
 pub mod Table
+pub mod Determined
