@@ -4,7 +4,6 @@
 --     pick-both                 what holds of both sides of a choice, each under its test, holds of the choice
 --     pick-first, pick-second   a choice that came out as its other side cannot
 -- Assumes nothing.
-use Prim.Native.Nat.{ℕ}
 use mathlib.Core.Bool.{Bool, true, false}
 use mathlib.Core.Path.{_≡_, refl, sym, subst, _∙_}
 use borrow.Author.Tests.{lt-ltb, le-ltb, le-leb, lt-leb, eq-eqb, ne-eqb}

@@ -22,9 +22,7 @@ use Rattle.word.specs.Flags.{word, LOCKED, QUEUED, QUEUE-LOCKED, DOWNGRA
 use Rattle.word.specs.Rules.{readLockOf, writeLockOf, readUnlockOf, registeredOf, takenOf, fewer}
 use Rattle.word.specs.declared.number.ThreadNumber.{ThreadNumber}
 use Rattle.word.specs.declared.flags.Word.{Word}
-use Rattle.word.specs.declared.rules.WriteLocked.{WriteLocked}
 use Rattle.word.specs.declared.rules.WriteLocked.the-variants.{To as WriteTo, Refused as WriteRefused}
-use Rattle.word.specs.declared.rules.ReadLocked.{ReadLocked}
 use Rattle.word.specs.declared.rules.ReadLocked.the-variants.{To as ReadTo, Refused as ReadRefused}
 use Rattle.word.specs.declared.rules.ReadUnlocked.{ReadUnlocked}
 use Rattle.word.specs.declared.rules.ReadUnlocked.the-variants.{To as UnlockTo, Contended, Refused as UnlockRefused}
