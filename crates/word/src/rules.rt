@@ -61,8 +61,8 @@ impl Word {
         if Word::MOST - Word::SINGLE < w {
             return ReadLocked::Refused;
         }
-        let more = Word(w + Word::SINGLE);
-        ReadLocked::To(more.set_locked())
+        let more = w + Word::SINGLE;
+        ReadLocked::To(Word(more).set_locked())
     }
 
     pub fn read_unlock(self) -> ReadUnlocked

@@ -22,8 +22,8 @@ sub-if3 c = search needs
 returns-3 : tie.Need-returns-3
 returns-3 c = let full : 2 ^ 64 ≤ c .before .before .before .before .args .self .0 + SINGLE = omega arith in search cases
 
-add-t6 : tie.Need-add-t6
-add-t6 c = search needs
+add-more : tie.Need-add-more
+add-more c = search needs
 
 set-locked-requires : tie.Need-set-locked-requires
 set-locked-requires c κs = search needs
@@ -42,6 +42,6 @@ read-lock-spec =
     returns-2
     sub-if3
     returns-3
-    add-t6
+    add-more
     set-locked-requires
     returns-4)
