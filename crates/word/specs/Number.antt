@@ -1,6 +1,6 @@
 -- Thread and node numbers: thread t owns node t + 1, and node 0 is none. Assumes nothing.
 use Prim.Native.Nat.{ℕ, _+_, _-_}
-use mathlib.Core.Bool.{Bool, true, false}
+use mathlib.Core.Bool.{Bool}
 use lib.Dec.{ltb, eqb}
 use Rattle.word.specs.Base.{pick}
 use Rattle.word.specs.declared.number.ThreadNumber.{ThreadNumber}

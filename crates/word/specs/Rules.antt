@@ -1,5 +1,5 @@
 -- What a word becomes, in document 01's order: write_lock, read_lock, registering, taking a queue whole, read_unlock. Assumes nothing.
-use Prim.Native.Nat.{ℕ, _+_, _-_, _*_, _^_}
+use Prim.Native.Nat.{_+_, _-_, _*_, _^_}
 use lib.Dec.{leb, ltb, eqb}
 use Rattle.word.specs.Base.{pick}
 use Rattle.word.specs.Number.{nodeOf}

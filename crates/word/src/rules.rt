@@ -61,28 +61,30 @@ impl Word {
         if Word::MOST - Word::SINGLE < w {
             return ReadLocked::Refused;
         }
-        let more = Word(w + Word::SINGLE);
-        ReadLocked::To(more.set_locked())
+        let more = w + Word::SINGLE;
+        ReadLocked::To(Word(more).set_locked())
     }
 
     pub fn read_unlock(self) -> ReadUnlocked
         ensures { λ r. ⌜ r ≡ readUnlockOf self ⌝ }
     {
         let w = self.0;
-        if self.queued() {
-            if self.downgraded() {
-                return ReadUnlocked::To(self.clear_downgraded().clear_locked());
+        if !self.queued() {
+            if w < ONE_READER.0 {
+                return ReadUnlocked::Refused;
             }
-            return ReadUnlocked::Contended;
+            let less = w - ONE_READER.0;
+            if less == 0 {
+                return ReadUnlocked::To(Word::FREE);
+            }
+            return ReadUnlocked::To(Word(less).set_locked());
         }
-        if w < Word::SINGLE + Word::LOCKED {
-            return ReadUnlocked::Refused;
+        if self.downgraded() {
+            let read = self.clear_downgraded();
+            let free = read.clear_locked();
+            return ReadUnlocked::To(free);
         }
-        let less = Word(w - (Word::SINGLE + Word::LOCKED));
-        if less.0 == 0 {
-            return ReadUnlocked::To(less);
-        }
-        ReadUnlocked::To(less.set_locked())
+        ReadUnlocked::Contended
     }
 
     // The word by which thread `me` registers its node on this one.

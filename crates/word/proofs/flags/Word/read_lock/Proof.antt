@@ -1,8 +1,9 @@
--- `word::flags::Word::read_lock` meets its contract: each answer by the tests that led to it. Assumes nothing.
+-- `word::flags::Word::read_lock` meets its contract: each answer by the tests that led to it, the last of them read as a sum. Assumes nothing.
 use Prim.Native.Nat.{_+_, _^_, _≤_, _<_}
 use native.Mathlib.Omega.{arith}
 use borrow.Author.Needs.{needs}
 use Rattle.word.specs.Cases.{cases}
+use Rattle.word.specs.Flags.{SINGLE}
 use Rattle.word.proofs.flags.Word.read_lock.Statement.{statement}
 use Rattle.word.proofs.flags.Word.read_lock.Tie as tie
 
@@ -19,17 +20,17 @@ sub-if3 : tie.Need-sub-if3
 sub-if3 c = search needs
 
 returns-3 : tie.Need-returns-3
-returns-3 c = let full : 2 ^ 64 ≤ c .before .before .before .before .args .self .0 + 16 = omega arith in search cases
+returns-3 c = let full : 2 ^ 64 ≤ c .before .before .before .before .args .self .0 + SINGLE = omega arith in search cases
 
-add-t6 : tie.Need-add-t6
-add-t6 c = search needs
+add-more : tie.Need-add-more
+add-more c = search needs
 
 set-locked-requires : tie.Need-set-locked-requires
 set-locked-requires c κs = search needs
 
 returns-4 : tie.Need-returns-4
 returns-4 c =
-    let room : c .before .before .before .before .before .args .self .0 + 16 < 2 ^ 64 = omega arith in
+    let room : c .before .before .before .before .before .args .self .0 + SINGLE < 2 ^ 64 = omega arith in
     simp (c .set-locked .ensures) (search cases)
 
 pub read-lock-spec : {M : Type 1} → statement M
@@ -41,6 +42,6 @@ read-lock-spec =
     returns-2
     sub-if3
     returns-3
-    add-t6
+    add-more
     set-locked-requires
     returns-4)
