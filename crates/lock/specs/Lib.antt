@@ -4,3 +4,4 @@ pub mod Advance
 pub mod Landed
 pub mod Step
 pub mod Event
+pub mod Laws

@@ -9,7 +9,6 @@ use Rattle.word.specs.declared.number.Slot.{Slot}
 use Rattle.word.specs.declared.number.Slot.the-variants.{Outside, At}
 use Rattle.state.specs.Access.{accessOf, touchedOf}
 use Rattle.state.specs.Machine.{threadAt, nodeAt, refusedOf}
-use Rattle.state.specs.declared.access.Access.{Access}
 use Rattle.state.specs.declared.access.Kind.{Kind}
 use Rattle.state.specs.declared.access.Kind.the-variants.{Nothing, Load, Store, WeakCompare, StrongCompare, FetchOr, Subtract as Subtracting, Complete, Park as Parking}
 use Rattle.state.specs.declared.answer.Refusal.the-variants.{NotInCall, NoToken, CannotFail, Damaged}
@@ -108,12 +107,12 @@ abbrev pub touchingBy : Machine → ThreadNumber → Bool → Slot → Outcome
 touchingBy m me fails Outside = refusedOf m Damaged
 touchingBy m me fails (At k) = reachedOf m me k fails
 
-abbrev pub touchingOf : Machine → ThreadNumber → Access → Bool → Outcome
-touchingOf m me access fails = touchingBy m me fails (slotOf (touchedOf access me) (m .count))
+abbrev pub touchingOf : Machine → ThreadNumber → NodeNumber → Bool → Outcome
+touchingOf m me node fails = touchingBy m me fails (slotOf node (m .count))
 
 abbrev pub stepBy : Machine → ThreadNumber → Bool → Verdict → Outcome
 stepBy m me fails (Refused r) = refusedOf m r
-stepBy m me fails Fine = touchingOf m me (accessOf me (threadAt m (me .0) .place)) fails
+stepBy m me fails Fine = touchingOf m me (touchedOf (accessOf me (threadAt m (me .0) .place)) me) fails
 
 unfoldable pub stepOf : Machine → ThreadNumber → Bool → Outcome
 stepOf m me fails =

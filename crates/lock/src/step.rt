@@ -109,11 +109,11 @@ fn reached(m: Machine, me: ThreadNumber, k: usize, fails: bool) -> Outcome
     land(m, i, k, advance(view(m, me, k, fails), place))
 }
 
-fn touching(m: Machine, me: ThreadNumber, access: Access, fails: bool) -> Outcome
+fn touching(m: Machine, me: ThreadNumber, node: NodeNumber, fails: bool) -> Outcome
     requires { ⌜ (m .count ≤ threadLimit) × (me .0 < threadLimit) ⌝ }
-    ensures { λ r. ⌜ r ≡ touchingOf m me access fails ⌝ }
+    ensures { λ r. ⌜ r ≡ touchingOf m me node fails ⌝ }
 {
-    match access.touched(me).slot(m.count) {
+    match node.slot(m.count) {
         Slot::Outside => m.refused(Refusal::Damaged),
         Slot::At(k) => reached(m, me, k, fails),
     }
@@ -130,6 +130,6 @@ pub(crate) fn step(m: Machine, me: ThreadNumber, fails: bool) -> Outcome
     let kind = access.kind;
     match halted(kind, t.token, fails) {
         Verdict::Refused(r) => m.refused(r),
-        Verdict::Fine => touching(m, me, access, fails),
+        Verdict::Fine => touching(m, me, access.touched(me), fails),
     }
 }

@@ -1,7 +1,8 @@
 -- `lock::step::mark_of` meets its contract: each answer by the tests that led to it. Assumes nothing.
 use borrow.Author.Needs.{needs}
 use native.Mathlib.Omega.{arith}
-use mathlib.Core.Path.{sym}
+use mathlib.Core.Path.{sym, _∙_}
+use Rattle.lock.specs.Laws.{slot-at}
 use Rattle.lock.proofs.step.mark_of.Statement.{statement}
 use Rattle.lock.proofs.step.mark_of.Tie as tie
 
@@ -15,7 +16,7 @@ enum-known-k : tie.Need-enum-known-k
 enum-known-k c = search needs
 
 mark-at-requires : tie.Need-mark-at-requires
-mark-at-requires c κs = omega arith
+mark-at-requires c κs = omega (arith, slot-at (c .before .before .before .before .args .tail) (c .before .before .before .before .args .m .count) (c .before .k .given .0) (sym (c .before .before .before .slot .ensures) ∙ c .before .k .given .1))
 
 returns : tie.Need-returns
 returns c = simp (sym (c .before .before .slot .ensures), c .enum-told .given .1)

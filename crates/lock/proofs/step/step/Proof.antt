@@ -1,7 +1,6 @@
 -- `lock::step::step` meets its contract: each answer by the tests that led to it. Assumes nothing.
 use borrow.Author.Needs.{needs}
 use mathlib.Core.Path.{sym}
-use Rattle.lock.specs.Step.{stepOf}
 use Rattle.lock.proofs.step.step.Statement.{statement}
 use Rattle.lock.proofs.step.step.Tie as tie
 
@@ -29,16 +28,17 @@ refused-requires c κs = search needs
 enum-told : tie.Need-enum-told
 enum-told c = search needs
 
+touched-requires : tie.Need-touched-requires
+touched-requires c κs = search needs
+
 touching-requires : tie.Need-touching-requires
 touching-requires c κs = search needs
 
 returns : tie.Need-returns
-unfolding stepOf
 returns c = simp (c .refused .ensures, sym (c .before .before .before .before .halted .ensures), c .before .before .before .before .before .of .ensures, c .before .before .r .given .1)
 
 returns-2 : tie.Need-returns-2
-unfolding stepOf
-returns-2 c = simp (c .touching .ensures, sym (c .before .before .before .halted .ensures), c .before .before .before .before .of .ensures, c .before .enum-told .given .1)
+returns-2 c = simp (c .touching .ensures, c .before .touched .ensures, sym (c .before .before .before .before .halted .ensures), c .before .before .before .before .before .of .ensures, c .before .before .enum-told .given .1)
 
 pub step-spec : {M : Type 1} → statement M
 step-spec =
@@ -52,6 +52,7 @@ step-spec =
     enum-known-r
     refused-requires
     enum-told
+    touched-requires
     touching-requires
     returns
     returns-2)

@@ -5,9 +5,6 @@ use mathlib.Core.Path.{sym}
 use Rattle.lock.proofs.step.touching.Statement.{statement}
 use Rattle.lock.proofs.step.touching.Tie as tie
 
-touched-requires : tie.Need-touched-requires
-touched-requires c κs = search needs
-
 slot-requires : tie.Need-slot-requires
 slot-requires c κs = search needs
 
@@ -24,16 +21,15 @@ reached-requires : tie.Need-reached-requires
 reached-requires c κs = omega arith
 
 returns : tie.Need-returns
-returns c = simp (c .refused .ensures, sym (c .before .before .before .slot .ensures), c .before .before .before .before .touched .ensures, c .before .enum-told .given .1)
+returns c = simp (c .refused .ensures, sym (c .before .before .before .slot .ensures), c .before .enum-told .given .1)
 
 returns-2 : tie.Need-returns-2
-returns-2 c = simp (c .reached .ensures, sym (c .before .before .before .before .slot .ensures), c .before .before .before .before .before .touched .ensures, c .before .before .k .given .1)
+returns-2 c = simp (c .reached .ensures, sym (c .before .before .before .before .slot .ensures), c .before .before .k .given .1)
 
 pub touching-spec : {M : Type 1} → statement M
 touching-spec =
     tie.close
     (tie.spec
-    touched-requires
     slot-requires
     enum-told
     refused-requires
