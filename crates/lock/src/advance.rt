@@ -1,7 +1,10 @@
 // One step at a place: each place has a function of its own.
 ghost use mathlib.Core.Path.{_≡_};
 ghost use Rattle.lock.specs.Advance.{advanceOf};
-use state::{Place, Refusal, Stepped, View};
+use state::Place;
+use state::Refusal;
+use state::Stepped;
+use state::View;
 
 pub(crate) fn advance(v: View, place: Place) -> Stepped
     ensures { λ r. ⌜ r ≡ advanceOf v place ⌝ }
@@ -12,19 +15,50 @@ pub(crate) fn advance(v: View, place: Place) -> Stepped
         Place::TryReadCas { blocking, seen } => acquire::try_read_cas(v, blocking, seen),
         Place::TryWriteOr { blocking } => acquire::try_write_or(v, blocking),
         Place::ContendLoad { writer, reloads } => acquire::contend_load(v, writer, reloads),
-        Place::ContendCas { writer, reloads, seen } => acquire::contend_cas(v, writer, reloads, seen),
-        Place::RegisterCas { writer, reloads, seen } => acquire::register_cas(v, writer, reloads, seen),
+        Place::ContendCas {
+            writer,
+            reloads,
+            seen,
+        } => acquire::contend_cas(v, writer, reloads, seen),
+        Place::RegisterCas {
+            writer,
+            reloads,
+            seen,
+        } => acquire::register_cas(v, writer, reloads, seen),
         Place::CompletedLoad { writer } => acquire::completed_load(v, writer),
         Place::Park { writer } => acquire::park(v, writer),
-        Place::WalkTail { walk, seen, current } => walk::walk_tail(v, walk, seen, current),
-        Place::WalkNext { walk, seen, current } => walk::walk_next(v, walk, seen, current),
-        Place::WalkPrev { walk, seen, current, next } => walk::walk_prev(v, walk, seen, current, next),
+        Place::WalkTail {
+            walk,
+            seen,
+            current,
+        } => walk::walk_tail(v, walk, seen, current),
+        Place::WalkNext {
+            walk,
+            seen,
+            current,
+        } => walk::walk_next(v, walk, seen, current),
+        Place::WalkPrev {
+            walk,
+            seen,
+            current,
+            next,
+        } => walk::walk_prev(v, walk, seen, current, next),
         Place::WalkHead { walk, seen, tail } => release::walk_head(v, walk, seen, tail),
         Place::QueueCas { who, seen } => release::queue_cas(v, who, seen),
         Place::SplitPrev { who, seen, tail } => release::split_prev(v, who, seen, tail),
-        Place::SplitStore { who, seen, tail, prev } => release::split_store(v, who, seen, tail, prev),
+        Place::SplitStore {
+            who,
+            seen,
+            tail,
+            prev,
+        } => release::split_store(v, who, seen, tail, prev),
         Place::SplitCas { who, seen, tail } => release::split_cas(v, who, seen, tail),
-        Place::SplitRestore { who, seen, tail, reported } => release::split_restore(v, who, seen, tail, reported),
+        Place::SplitRestore {
+            who,
+            seen,
+            tail,
+            reported,
+        } => release::split_restore(v, who, seen, tail, reported),
         Place::TakeCas { who, seen, tail } => release::take_cas(v, who, seen, tail),
         Place::WakePrev { who, current } => walk::wake_prev(v, who, current),
         Place::WakeStore { who, current, prev } => walk::wake_store(v, who, current, prev),

@@ -4,8 +4,18 @@ ghost use Prim.Native.Nat.{_<_};
 ghost use Rattle.state.specs.Machine.{threadLimit};
 ghost use Rattle.lock.specs.Begin.{firstPlace, holdsNothing, mayBegin, isIdle, placedOf, beginOf, beganOf};
 use crate::code::Call;
-use state::{Access, Answer, Holding, Kind, Machine, Outcome, Place, Refusal, Reply, Thread};
-use word::{Owner, ThreadNumber};
+use state::Access;
+use state::Answer;
+use state::Holding;
+use state::Kind;
+use state::Machine;
+use state::Outcome;
+use state::Place;
+use state::Refusal;
+use state::Reply;
+use state::Thread;
+use word::Owner;
+use word::ThreadNumber;
 
 fn first_place(call: Call) -> Place
     ensures { λ r. ⌜ r ≡ firstPlace call ⌝ }

@@ -4,9 +4,14 @@ ghost use Prim.Native.Nat.{_≤_};
 ghost use Rattle.state.specs.Machine.{threadLimit};
 ghost use Rattle.lock.specs.Event.{calledOf, steppedOf, eventBy, eventOf};
 use crate::begin::begin;
-use crate::code::{code_of, Call, Code};
+use crate::code::Call;
+use crate::code::Code;
+use crate::code::code_of;
 use crate::step::step;
-use state::{good_count, Machine, Outcome, Refusal};
+use state::Machine;
+use state::Outcome;
+use state::Refusal;
+use state::good_count;
 use word::ThreadNumber;
 
 fn called(m: Machine, me: ThreadNumber, call: Call) -> Outcome

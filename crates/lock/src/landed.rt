@@ -4,8 +4,15 @@ ghost use mathlib.Core.Path.{_≡_};
 ghost use Prim.Native.Nat.{_<_};
 ghost use Rattle.state.specs.Machine.{threadLimit};
 ghost use Rattle.lock.specs.Landed.{tokenedOf, wokenOf, storedOf, appliedOf, landedOf, tokenSet};
-use state::{Change, Machine, Outcome, Reply, Stepped, Thread, THREADS};
-use word::{Owner, ThreadNumber};
+use state::Change;
+use state::Machine;
+use state::Outcome;
+use state::Reply;
+use state::Stepped;
+use state::THREADS;
+use state::Thread;
+use word::Owner;
+use word::ThreadNumber;
 
 fn tokened(t: Thread) -> Thread
     ensures { λ r. ⌜ r ≡ tokenedOf t ⌝ }

@@ -9,11 +9,13 @@
 //
 //     listing::listing(machine)                the waiters, newest first
 //     reader_count::reader_count(machine)      how many read, and where the lock keeps that number
-pub mod code;
-pub mod begin;
 pub mod advance;
+pub mod begin;
+pub mod code;
+pub mod event;
 pub mod landed;
 pub mod step;
-pub mod event;
 
-pub use code::{code_of, Call, Code};
+pub use code::Call;
+pub use code::Code;
+pub use code::code_of;

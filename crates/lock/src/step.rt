@@ -5,8 +5,18 @@ ghost use Rattle.state.specs.Machine.{threadLimit};
 ghost use Rattle.lock.specs.Step.{failingOf, parkingOf, haltedOf, markedOf, markAt, markOf, viewOf, reachedOf, touchingOf, stepOf};
 use crate::advance::advance;
 use crate::landed::land;
-use state::{Access, Kind, Machine, Mark, Outcome, Place, Refusal, Verdict, View};
-use word::{NodeNumber, Slot, ThreadNumber};
+use state::Access;
+use state::Kind;
+use state::Machine;
+use state::Mark;
+use state::Outcome;
+use state::Place;
+use state::Refusal;
+use state::Verdict;
+use state::View;
+use word::NodeNumber;
+use word::Slot;
+use word::ThreadNumber;
 
 // A step that fails for no cause is refused at any other access than a weak compare or park.
 fn failing(fails: bool) -> Verdict
@@ -52,7 +62,11 @@ fn marked(place: Place) -> NodeNumber
     ensures { λ r. ⌜ r ≡ markedOf place ⌝ }
 {
     match place {
-        Place::WalkHead { walk: _, seen: _, tail } => tail,
+        Place::WalkHead {
+            walk: _,
+            seen: _,
+            tail,
+        } => tail,
         _ => NodeNumber(0),
     }
 }

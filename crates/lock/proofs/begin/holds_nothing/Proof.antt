@@ -1,7 +1,7 @@
 -- `lock::begin::holds_nothing` meets its contract: each answer by the tests that led to it. Assumes nothing.
 use borrow.Author.Needs.{needs}
 use mathlib.Core.Path.{sym}
-use borrow.Author.Tests.{lt-ltb, le-ltb, le-leb, lt-leb, eq-eqb, ne-eqb}
+use borrow.Author.Tests.{ne-eqb}
 use Rattle.lock.proofs.begin.holds_nothing.Statement.{statement}
 use Rattle.lock.proofs.begin.holds_nothing.Tie as tie
 
@@ -12,10 +12,10 @@ writes-requires : tie.Need-writes-requires
 writes-requires c κs = search needs
 
 returns : tie.Need-returns
-returns c = let h1 = c .before .if1 .taken in simp (c .writes .ensures, sym (c .before .before .reads .ensures), h1, lt-ltb, le-ltb, le-leb, lt-leb, eq-eqb, ne-eqb)
+returns c = let h1 = c .before .if1 .taken in simp (c .writes .ensures, sym (c .before .before .reads .ensures), h1)
 
 returns-2 : tie.Need-returns-2
-returns-2 c = let h1 = c .if1 .left in simp (sym (c .before .reads .ensures), h1, lt-ltb, le-ltb, le-leb, lt-leb, eq-eqb, ne-eqb)
+returns-2 c = let h1 = c .if1 .left in simp (sym (c .before .reads .ensures), h1, ne-eqb)
 
 pub holds-nothing-spec : {M : Type 1} → statement M
 holds-nothing-spec = tie.close (tie.spec reads-requires writes-requires returns returns-2)

@@ -1,9 +1,8 @@
 -- `lock::event::event` meets its contract: each answer by the tests that led to it. Assumes nothing.
 use borrow.Author.Needs.{needs}
-use native.Mathlib.Omega.{arith}
-use mathlib.Core.Path.{sym}
-use borrow.Author.Tests.{lt-ltb, le-ltb, le-leb, lt-leb, eq-eqb, ne-eqb}
+use mathlib.Core.Path.{sym, _∙_}
 use Rattle.lock.specs.Event.{eventOf}
+use Rattle.lock.specs.Laws.{good-count}
 use Rattle.lock.proofs.event.event.Statement.{statement}
 use Rattle.lock.proofs.event.event.Tie as tie
 
@@ -14,18 +13,18 @@ code-of-requires : tie.Need-code-of-requires
 code-of-requires c κs = search needs
 
 coded-requires : tie.Need-coded-requires
-coded-requires c κs = omega arith
+coded-requires c κs = good-count (c .before .before .before .args .m .count) (sym (c .before .before .good-count .ensures) ∙ c .before .if1 .taken) .1
 
 returns : tie.Need-returns
 unfolding eventOf
-returns c = let h1 = c .before .before .if1 .taken in simp (c .coded .ensures, c .before .code-of .ensures, sym (c .before .before .before .good-count .ensures), h1, lt-ltb, le-ltb, le-leb, lt-leb, eq-eqb, ne-eqb)
+returns c = let h1 = c .before .before .if1 .taken in simp (c .coded .ensures, c .before .code-of .ensures, sym (c .before .before .before .good-count .ensures), h1)
 
 refused-requires : tie.Need-refused-requires
 refused-requires c κs = search needs
 
 returns-2 : tie.Need-returns-2
 unfolding eventOf
-returns-2 c = let h1 = c .before .if1 .left in simp (c .refused .ensures, sym (c .before .before .good-count .ensures), h1, lt-ltb, le-ltb, le-leb, lt-leb, eq-eqb, ne-eqb)
+returns-2 c = let h1 = c .before .if1 .left in simp (c .refused .ensures, sym (c .before .before .good-count .ensures), h1)
 
 pub event-spec : {M : Type 1} → statement M
 event-spec =

@@ -1,6 +1,6 @@
 -- `lock::landed::set_token` meets its contract: each answer by the tests that led to it. Assumes nothing.
 use borrow.Author.Needs.{needs}
-use borrow.Author.Tests.{lt-ltb, le-ltb, le-leb, lt-leb, eq-eqb, ne-eqb}
+use borrow.Author.Tests.{lt-ltb, le-ltb}
 use Rattle.lock.proofs.landed.set_token.Statement.{statement}
 use Rattle.lock.proofs.landed.set_token.Tie as tie
 
@@ -23,10 +23,10 @@ array-set-from-threads : tie.Need-array-set-from-threads
 array-set-from-threads c = search needs
 
 returns : tie.Need-returns
-returns c = let h1 = c .before .before .before .before .before .if1 .taken in simp (c .tokened .ensures, h1, lt-ltb, le-ltb, le-leb, lt-leb, eq-eqb, ne-eqb)
+returns c = let h1 = c .before .before .before .before .before .if1 .taken in simp (c .tokened .ensures, h1, lt-ltb)
 
 returns-2 : tie.Need-returns-2
-returns-2 c = let h1 = c .if1 .left in simp (h1, lt-ltb, le-ltb, le-leb, lt-leb, eq-eqb, ne-eqb)
+returns-2 c = let h1 = c .if1 .left in simp (h1, le-ltb)
 
 pub set-token-spec : {M : Type 1} → statement M
 set-token-spec =

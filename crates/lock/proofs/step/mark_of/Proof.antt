@@ -16,7 +16,7 @@ enum-known-k : tie.Need-enum-known-k
 enum-known-k c = search needs
 
 mark-at-requires : tie.Need-mark-at-requires
-mark-at-requires c κs = omega (arith, slot-at (c .before .before .before .before .args .tail) (c .before .before .before .before .args .m .count) (c .before .k .given .0) (sym (c .before .before .before .slot .ensures) ∙ c .before .k .given .1))
+mark-at-requires c κs = omega (arith, slot-at (c .before .before .before .before .args .tail) (c .before .before .before .before .args .m .count) (c .before .k .given .0 .0) (sym (c .before .before .before .slot .ensures) ∙ c .before .k .given .1))
 
 returns : tie.Need-returns
 returns c = simp (sym (c .before .before .slot .ensures), c .enum-told .given .1)

@@ -1,6 +1,11 @@
--- `lock::step::step` meets its contract: each answer by the tests that led to it. Assumes nothing.
+-- `lock::step::step` meets its contract: the access found for the place is the one that the rule names, so both halt or touch alike. Assumes nothing.
 use borrow.Author.Needs.{needs}
-use mathlib.Core.Path.{sym}
+use mathlib.Core.Path.{sym, ap, _∙_}
+use Rattle.word.specs.declared.number.NodeNumber.{NodeNumber}
+use Rattle.state.specs.Access.{touchedOf}
+use Rattle.state.specs.Machine.{threadAt}
+use Rattle.state.specs.declared.access.Access.{Access}
+use Rattle.lock.specs.Step.{haltedOf, touchingOf, stepBy, stepOf}
 use Rattle.lock.proofs.step.step.Statement.{statement}
 use Rattle.lock.proofs.step.step.Tie as tie
 
@@ -35,10 +40,21 @@ touching-requires : tie.Need-touching-requires
 touching-requires c κs = search needs
 
 returns : tie.Need-returns
-returns c = simp (c .refused .ensures, sym (c .before .before .before .before .halted .ensures), c .before .before .before .before .before .of .ensures, c .before .before .r .given .1)
+unfolding stepOf
+returns c = simp (c .refused .ensures, sym (c .before .before .before .before .halted .ensures), sym (c .before .before .before .before .before .of .ensures), c .before .before .r .given .1)
 
 returns-2 : tie.Need-returns-2
-returns-2 c = simp (c .touching .ensures, c .before .touched .ensures, sym (c .before .before .before .before .halted .ensures), c .before .before .before .before .before .of .ensures, c .before .before .enum-told .given .1)
+unfolding stepOf
+returns-2 c =
+    let s = c .before .before .before .before .before .before .before .before .args in
+    let e = c .before .before .before .before .before .of .ensures in
+    c .touching .ensures ∙
+    (ap (λ (n : NodeNumber). touchingOf (s .t1) (s .me) n (s .fails))
+    (c .before .touched .ensures ∙ ap (λ (a : Access). touchedOf a (s .me)) e) ∙
+    ap (stepBy (s .t1) (s .me) (s .fails))
+    (sym
+    (ap (λ (a : Access). haltedOf (a .kind) (threadAt (s .t1) (s .me .0) .token) (s .fails)) (sym e) ∙
+    (sym (c .before .before .before .before .halted .ensures) ∙ c .before .before .enum-told .given .1))))
 
 pub step-spec : {M : Type 1} → statement M
 step-spec =

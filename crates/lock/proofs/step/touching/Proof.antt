@@ -1,7 +1,8 @@
 -- `lock::step::touching` meets its contract: each answer by the tests that led to it. Assumes nothing.
 use borrow.Author.Needs.{needs}
 use native.Mathlib.Omega.{arith}
-use mathlib.Core.Path.{sym}
+use mathlib.Core.Path.{sym, _∙_}
+use Rattle.lock.specs.Laws.{slot-at}
 use Rattle.lock.proofs.step.touching.Statement.{statement}
 use Rattle.lock.proofs.step.touching.Tie as tie
 
@@ -18,7 +19,7 @@ enum-known-k : tie.Need-enum-known-k
 enum-known-k c = search needs
 
 reached-requires : tie.Need-reached-requires
-reached-requires c κs = omega arith
+reached-requires c κs = omega (arith, slot-at (c .before .before .before .before .args .node) (c .before .before .before .before .args .m .count) (c .before .k .given .0 .0) (sym (c .before .before .before .slot .ensures) ∙ c .before .k .given .1))
 
 returns : tie.Need-returns
 returns c = simp (c .refused .ensures, sym (c .before .before .before .slot .ensures), c .before .enum-told .given .1)
