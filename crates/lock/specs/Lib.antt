@@ -5,3 +5,4 @@ pub mod Landed
 pub mod Step
 pub mod Event
 pub mod Laws
+pub mod Effect

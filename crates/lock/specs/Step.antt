@@ -85,38 +85,45 @@ markBy m (At k) = markAt m k
 abbrev pub markOf : Machine → NodeNumber → Mark
 markOf m tail = markBy m (slotOf tail (m .count))
 
--- what the step may look at: the word, node k, the mark, and the thread's own record
-abbrev pub viewOf : Machine → ThreadNumber → ℕ → Bool → View
-viewOf m me k fails =
+-- what a step at place p may look at: the word, node k, the mark, and the thread's own record
+abbrev pub viewAt : Machine → ThreadNumber → ℕ → Bool → Place → View
+viewAt m me k fails p =
     record {
       me = me;
       word = m .word;
       node = nodeAt m k;
-      mark = markOf m (markedOf (threadAt m (me .0) .place));
+      mark = markOf m (markedOf p);
       token = threadAt m (me .0) .token;
       holding = threadAt m (me .0) .holding;
       fails = fails;
     }
 
+abbrev pub viewOf : Machine → ThreadNumber → ℕ → Bool → View
+viewOf m me k fails = viewAt m me k fails (threadAt m (me .0) .place)
+
+-- the rule of the place, and what it changed stored
+abbrev pub reachedAt : Machine → ThreadNumber → ℕ → Bool → Place → Outcome
+reachedAt m me k fails p = landedOf m (me .0) k (advanceOf (viewAt m me k fails p) p)
+
 abbrev pub reachedOf : Machine → ThreadNumber → ℕ → Bool → Outcome
-reachedOf m me k fails =
-    landedOf m (me .0) k (advanceOf (viewOf m me k fails) (threadAt m (me .0) .place))
+reachedOf m me k fails = reachedAt m me k fails (threadAt m (me .0) .place)
 
 -- 8: the access would touch a node outside 1..count
-abbrev pub touchingBy : Machine → ThreadNumber → Bool → Slot → Outcome
-touchingBy m me fails Outside = refusedOf m Damaged
-touchingBy m me fails (At k) = reachedOf m me k fails
+abbrev pub touchingBy : Machine → ThreadNumber → Bool → Place → Slot → Outcome
+touchingBy m me fails p Outside = refusedOf m Damaged
+touchingBy m me fails p (At k) = reachedAt m me k fails p
 
 abbrev pub touchingOf : Machine → ThreadNumber → NodeNumber → Bool → Outcome
-touchingOf m me node fails = touchingBy m me fails (slotOf node (m .count))
+touchingOf m me node fails = touchingBy m me fails (threadAt m (me .0) .place) (slotOf node (m .count))
 
-abbrev pub stepBy : Machine → ThreadNumber → Bool → Verdict → Outcome
-stepBy m me fails (Refused r) = refusedOf m r
-stepBy m me fails Fine = touchingOf m me (touchedOf (accessOf me (threadAt m (me .0) .place)) me) fails
+abbrev pub stepBy : Machine → ThreadNumber → Bool → Place → Verdict → Outcome
+stepBy m me fails p (Refused r) = refusedOf m r
+stepBy m me fails p Fine = touchingBy m me fails p (slotOf (touchedOf (accessOf me p) me) (m .count))
+
+-- a step of a thread that stands at place p
+abbrev pub stepAt : Machine → ThreadNumber → Bool → Place → Outcome
+stepAt m me fails p =
+    stepBy m me fails p (haltedOf (accessOf me p .kind) (threadAt m (me .0) .token) fails)
 
 unfoldable pub stepOf : Machine → ThreadNumber → Bool → Outcome
-stepOf m me fails =
-    stepBy m
-    me
-    fails
-    (haltedOf (accessOf me (threadAt m (me .0) .place) .kind) (threadAt m (me .0) .token) fails)
+stepOf m me fails = stepAt m me fails (threadAt m (me .0) .place)

@@ -51,7 +51,7 @@ returns-2 c =
     c .touching .ensures ∙
     (ap (λ (n : NodeNumber). touchingOf (s .t1) (s .me) n (s .fails))
     (c .before .touched .ensures ∙ ap (λ (a : Access). touchedOf a (s .me)) e) ∙
-    ap (stepBy (s .t1) (s .me) (s .fails))
+    ap (stepBy (s .t1) (s .me) (s .fails) (threadAt (s .t1) (s .me .0) .place))
     (sym
     (ap (λ (a : Access). haltedOf (a .kind) (threadAt (s .t1) (s .me .0) .token) (s .fails)) (sym e) ∙
     (sym (c .before .before .before .before .halted .ensures) ∙ c .before .before .enum-told .given .1))))
