@@ -242,9 +242,9 @@ abbrev pub effectOf : ThreadNumber → Machine → Machine → Effect
 effectOf me m after =
     record {
       lock = lockEffect (threadAt m (me .0) .place)
-      (threadAt m (me .0) .holding)
-      (wordChanged m after)
-      (standOf (threadAt after (me .0) .place));
+          (threadAt m (me .0) .holding)
+          (wordChanged m after)
+          (standOf (threadAt after (me .0) .place));
       queue = queueEffect me (threadAt m (me .0) .place) (standOf (threadAt after (me .0) .place));
     }
 
