@@ -1,0 +1,181 @@
+-- The refusal table holds: an event gives the number of the table's first row whose condition holds, and a refused event changes nothing. Assumes nothing.
+use Prim.Native.Nat.{ℕ, zero, suc, _≤_, _<_, _+_}
+use mathlib.Core.Bool.{Bool, true, false, not}
+use mathlib.Core.List.{List, [], _∷_}
+use mathlib.Core.Path.{_≡_, refl, sym, ap, _∙_}
+use native.Mathlib.Omega.{arith}
+use lib.Dec.{leb, ltb, eqb}
+use borrow.Author.Tests.{leb-true, leb-false, eqb-true}
+use Rattle.word.specs.Base.{pick}
+use Rattle.word.specs.Number.{thread}
+use Rattle.word.specs.declared.number.ThreadNumber.{ThreadNumber}
+use Rattle.word.specs.declared.number.Slot.{Slot}
+use Rattle.word.specs.declared.number.Slot.the-variants.{Outside, At}
+use Rattle.word.specs.declared.number.Owner.{Owner}
+use Rattle.state.specs.Access.{accessOf}
+use Rattle.state.specs.Answer.{refusalNumber}
+use Rattle.state.specs.Holding.{readsOf, writesOf}
+use Rattle.state.specs.Machine.{goodCount, threadAt, refusedOf}
+use Rattle.state.specs.declared.access.Kind.{Kind}
+use Rattle.state.specs.declared.answer.Answer.{Answer}
+use Rattle.state.specs.declared.answer.Refusal.{Refusal}
+use Rattle.state.specs.declared.answer.Refusal.the-variants.{UnknownCode, NoThread, InsideCall, WrongHolding, Damaged}
+use Rattle.state.specs.declared.answer.Reply.{Reply}
+use Rattle.state.specs.declared.answer.Reply.the-variants.{Accepted, Refused}
+use Rattle.state.specs.declared.answer.Verdict.{Verdict}
+use Rattle.state.specs.declared.answer.Verdict.the-variants.{Fine, Refused as Denied}
+use Rattle.state.specs.declared.holding.Holding.{Holding}
+use Rattle.state.specs.declared.holding.Holding.the-variants.{Nothing, Read, Write}
+use Rattle.state.specs.declared.machine.Machine.{Machine}
+use Rattle.state.specs.declared.machine.Outcome.{Outcome}
+use Rattle.state.specs.declared.place.Place.{Place}
+use Rattle.state.specs.declared.place.Place.the-variants.{Idle, TryReadLoad, TryReadCas, TryWriteOr, ContendLoad, ContendCas, RegisterCas, CompletedLoad, Park, WalkTail, WalkNext, WalkPrev, WalkHead, QueueCas, SplitPrev, SplitStore, SplitCas, SplitRestore, TakeCas, WakePrev, WakeStore, ReadUnlockLoad, ReadUnlockCas, Subtract, WriteUnlockCas, ReleaseCas, DowngradeCas, DowngradeSlowCas}
+use Rattle.state.specs.declared.view.Stepped.{Stepped}
+use Rattle.state.specs.declared.view.Stepped.the-variants.{To, Refused as StepRefused}
+use Rattle.lock.specs.Begin.{holdsNothing, mayBegin, isIdle, beganOf, beginOf}
+use Rattle.lock.specs.Code.{callOf, codeOf}
+use Rattle.lock.specs.Event.{calledOf, steppedOf, eventBy, eventOf}
+use Rattle.lock.specs.Landed.{landedOf}
+use Rattle.lock.specs.Step.{haltedOf, touchingBy, stepBy, stepAt, stepOf}
+use Rattle.lock.specs.declared.code.Call.{Call}
+use Rattle.lock.specs.declared.code.Code.{Code}
+use Rattle.lock.specs.declared.code.Code.the-variants.{Begin, Step, Fail, Unknown}
+use Rattle.promises.specs.Refusals.{and, or, numberGiven, Row, row, firstOf, idle, asleep, mayFail, begins, steps, wrongHolding, damaged, stepRows, refusalRows}
+use Rattle.promises.specs.RefusalSteps.{step-table}
+
+-- ── a test and its row ──
+
+-- a test that refuses, and the row of that refusal, before the rest
+row-when : (n later : ℕ) (b : Bool) (refusal rest : Outcome)
+    → numberGiven (refusal .reply) ≡ n
+    → (b ≡ false → numberGiven (rest .reply) ≡ later)
+    → numberGiven (pick b refusal rest .reply) ≡ pick b n later
+row-when n later true refusal rest p q = p
+row-when n later false refusal rest p q = q refl
+
+-- a test that lets the rest go on: the row's condition is its contrary
+row-unless : (n later : ℕ) (b condition : Bool) (rest refusal : Outcome)
+    → condition ≡ not b
+    → numberGiven (refusal .reply) ≡ n
+    → (b ≡ true → numberGiven (rest .reply) ≡ later)
+    → numberGiven (pick b rest refusal .reply) ≡ pick condition n later
+row-unless n later true condition rest refusal e p q = rw e (q refl)
+row-unless n later false condition rest refusal e p q = rw e p
+
+-- ── begin ──
+
+-- the access's kind does not depend on the thread, so either test of idleness is the other
+same-idle : (t : ThreadNumber) (p : Place) → isIdle p ≡ idle (accessOf t p .kind)
+unfolding accessOf
+same-idle t Idle = refl
+same-idle t (TryReadLoad _) = refl
+same-idle t (TryReadCas _ _) = refl
+same-idle t (TryWriteOr _) = refl
+same-idle t (ContendLoad _ _) = refl
+same-idle t (ContendCas _ _ _) = refl
+same-idle t (RegisterCas _ _ _) = refl
+same-idle t (CompletedLoad _) = refl
+same-idle t (Park _) = refl
+same-idle t (WalkTail _ _ _) = refl
+same-idle t (WalkNext _ _ _) = refl
+same-idle t (WalkPrev _ _ _ _) = refl
+same-idle t (WalkHead _ _ _) = refl
+same-idle t (QueueCas _ _) = refl
+same-idle t (SplitPrev _ _ _) = refl
+same-idle t (SplitStore _ _ _ _) = refl
+same-idle t (SplitCas _ _ _) = refl
+same-idle t (SplitRestore _ _ _ _) = refl
+same-idle t (TakeCas _ _ _) = refl
+same-idle t (WakePrev _ _) = refl
+same-idle t (WakeStore _ _ _) = refl
+same-idle t ReadUnlockLoad = refl
+same-idle t (ReadUnlockCas _) = refl
+same-idle t (Subtract _ _) = refl
+same-idle t WriteUnlockCas = refl
+same-idle t (ReleaseCas _) = refl
+same-idle t DowngradeCas = refl
+same-idle t (DowngradeSlowCas _) = refl
+
+-- what is held, as document 01 asks for it and as beginning tests it
+held : (h : Holding)
+    → (ltb 0 (readsOf h + writesOf h) ≡ not (holdsNothing h))
+    × (eqb (readsOf h) 0 ≡ not (ltb 0 (readsOf h)))
+    × (eqb (writesOf h) 0 ≡ not (ltb 0 (writesOf h)))
+held Nothing = (refl, refl, refl)
+held Read = (refl, refl, refl)
+held Write = (refl, refl, refl)
+
+-- the holding is wrong exactly where the call may not begin
+wrong-holding : (code : ℕ) (h : Holding) → code ≤ 6 → wrongHolding code h ≡ not (mayBegin (callOf code) h)
+wrong-holding zero h b = held h .0
+wrong-holding (suc zero) h b = held h .0
+wrong-holding (suc (suc zero)) h b = held h .0
+wrong-holding (suc (suc (suc zero))) h b = held h .0
+wrong-holding (suc (suc (suc (suc zero)))) h b = held h .1
+wrong-holding (suc (suc (suc (suc (suc zero))))) h b = held h .2
+wrong-holding (suc (suc (suc (suc (suc (suc zero)))))) h b = held h .2
+wrong-holding (suc (suc (suc (suc (suc (suc (suc n))))))) h b = absurd (omega arith)
+
+begin-table : (m : Machine) (t : ThreadNumber) (code : ℕ) → code ≤ 6
+    → numberGiven (beginOf m (t .0) (callOf code) .reply)
+    ≡ firstOf
+    (row 3 (not (idle (accessOf t (threadAt m (t .0) .place) .kind))) ∷
+    row 4 (wrongHolding code (threadAt m (t .0) .holding)) ∷
+    [])
+begin-table m t code b =
+    let p = threadAt m (t .0) .place in
+    let h = threadAt m (t .0) .holding in
+    row-unless 3 _ (isIdle p) _ _ _ (ap not (sym (same-idle t p))) refl
+    (λ _. row-unless 4 0 (mayBegin (callOf code) h) _ _ _ (wrong-holding code h b) refl (λ _. refl))
+
+-- ── the event ──
+
+-- a code is that of a begin, of a step or of a step that fails, or of none
+data Code-is : Bool → Bool → Bool → Type 0 where
+  a-begin : Code-is true false false
+  a-step : Code-is false true false
+  a-fail : Code-is false false true
+  unknown : Code-is false false false
+
+code-is : (code : ℕ) → Code-is (leb code 6) (eqb code 16) (eqb code 17)
+code-is code = by-tests (leb code 6) (eqb code 16) (eqb code 17) (leb-true code 6) (eqb-true code 16) (eqb-true code 17)
+  where
+    by-tests : (b s f : Bool) → (b ≡ true → code ≤ 6) → (s ≡ true → code ≡ 16) → (f ≡ true → code ≡ 17) → Code-is b s f
+    by-tests true true f p q r = absurd (omega (arith, p refl, q refl))
+    by-tests true false true p q r = absurd (omega (arith, p refl, r refl))
+    by-tests true false false p q r = a-begin
+    by-tests false true true p q r = absurd (omega (arith, q refl, r refl))
+    by-tests false true false p q r = a-step
+    by-tests false false true p q r = a-fail
+    by-tests false false false p q r = unknown
+
+-- the table from 1 on, by the tests of the code
+abbrev rowsBy : Machine → ThreadNumber → Bool → Bool → Bool → Bool → Kind → List Row
+rowsBy m t b s f wrong k =
+    row 1 (not (or b (or s f))) ∷
+    row 2 (leb (m .count) (t .0)) ∷
+    row 3 (and b (not (idle k))) ∷
+    row 4 (and b wrong) ∷
+    row 5 (and (or s f) (idle k)) ∷
+    row 6 (and s (and (asleep k) (not (threadAt m (t .0) .token)))) ∷
+    row 7 (and f (not (mayFail k))) ∷
+    row 8 (and (or s f) (damaged m t (threadAt m (t .0) .place))) ∷
+    []
+
+-- 1, 2, then the rows of a begin or of a step
+by-code : (m : Machine) (code : ℕ) (t : ThreadNumber) {b s f : Bool} → Code-is b s f → (b ≡ true → code ≤ 6)
+    → numberGiven (eventBy m (pick b (Begin (callOf code)) (pick s Step (pick f Fail Unknown))) t .reply)
+    ≡ firstOf
+    (rowsBy m t b s f (wrongHolding code (threadAt m (t .0) .holding)) (accessOf t (threadAt m (t .0) .place) .kind))
+unfolding stepOf
+by-code m code t a-begin h = row-when 2 _ (leb (m .count) (t .0)) _ _ refl (λ _. begin-table m t code (h refl))
+by-code m code t a-step h =
+    row-when 2 _ (leb (m .count) (t .0)) _ _ refl (λ e. step-table m t (leb-false _ _ e) false (threadAt m (t .0) .place))
+by-code m code t a-fail h =
+    row-when 2 _ (leb (m .count) (t .0)) _ _ refl (λ e. step-table m t (leb-false _ _ e) true (threadAt m (t .0) .place))
+by-code m code t unknown h = refl
+
+-- the number given is that of the first row whose condition holds
+pub refusal-table : (m : Machine) (code : ℕ) (t : ThreadNumber) → numberGiven (eventOf m code t .reply) ≡ firstOf (refusalRows m code t)
+unfolding eventOf
+refusal-table m code t = row-unless 8 _ (goodCount (m .count)) _ _ _ refl refl (λ _. by-code m code t (code-is code) (leb-true code 6))
