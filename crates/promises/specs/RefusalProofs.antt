@@ -179,3 +179,49 @@ by-code m code t unknown h = refl
 pub refusal-table : (m : Machine) (code : ℕ) (t : ThreadNumber) → numberGiven (eventOf m code t .reply) ≡ firstOf (refusalRows m code t)
 unfolding eventOf
 refusal-table m code t = row-unless 8 _ (goodCount (m .count)) _ _ _ refl refl (λ _. by-code m code t (code-is code) (leb-true code 6))
+
+-- ── a refused event ──
+
+-- an outcome that refuses hands the machine back as it was
+data Settled (m : Machine) : Outcome → Type 0 where
+  refuses : (r : Refusal) → Settled m (refusedOf m r)
+  accepts : (after : Machine) (a : Answer) (woken : Owner) → Settled m (record { machine = after; reply = Accepted a woken })
+
+settled-both : (m : Machine) (b : Bool) (x y : Outcome) → Settled m x → Settled m y → Settled m (pick b x y)
+settled-both m true x y p q = p
+settled-both m false x y p q = q
+
+landed-settled : (m : Machine) (i k : ℕ) (s : Stepped) → Settled m (landedOf m i k s)
+landed-settled m i k (To c) = accepts _ _ _
+landed-settled m i k (StepRefused r) = refuses r
+
+touching-settled : (m : Machine) (t : ThreadNumber) (fails : Bool) (p : Place) (s : Slot) → Settled m (touchingBy m t fails p s)
+touching-settled m t fails p Outside = refuses Damaged
+touching-settled m t fails p (At k) = search landed-settled
+
+step-settled : (m : Machine) (t : ThreadNumber) (fails : Bool) (p : Place) (v : Verdict) → Settled m (stepBy m t fails p v)
+step-settled m t fails p (Denied r) = refuses r
+step-settled m t fails p Fine = search touching-settled
+
+ruleset settling = (refuses, accepts, settled-both, step-settled)
+
+by-code-settled : (m : Machine) (c : Code) (t : ThreadNumber) → Settled m (eventBy m c t)
+unfolding stepOf
+by-code-settled m Unknown t = search settling
+by-code-settled m (Begin call) t = search settling
+by-code-settled m Step t = search settling
+by-code-settled m Fail t = search settling
+
+event-settled : (m : Machine) (code : ℕ) (t : ThreadNumber) → Settled m (eventOf m code t)
+unfolding eventOf
+event-settled m code t = settled-both m (goodCount (m .count)) _ _ (by-code-settled m (codeOf code) t) (refuses Damaged)
+
+unchanged : {m : Machine} {o : Outcome} → Settled m o → (r : Refusal) → o .reply ≡ Refused r → o .machine ≡ m
+unchanged (refuses _) r e = refl
+unchanged (accepts after a woken) r e = let bad : _≡_ {A = ℕ} 0 1 = cc in absurd (omega arith)
+
+-- a refused event leaves the machine unchanged
+pub refused-unchanged : (m : Machine) (code : ℕ) (t : ThreadNumber) (r : Refusal)
+    → eventOf m code t .reply ≡ Refused r
+    → eventOf m code t .machine ≡ m
+refused-unchanged m code t r e = unchanged (event-settled m code t) r e
