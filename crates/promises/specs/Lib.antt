@@ -1,3 +1,4 @@
 pub mod Refusals
 pub mod RefusalSteps
+pub mod RefusalFirst
 pub mod RefusalProofs

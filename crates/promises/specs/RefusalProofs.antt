@@ -2,6 +2,7 @@
 use Prim.Native.Nat.{ℕ, zero, suc, _≤_, _<_, _+_}
 use mathlib.Core.Bool.{Bool, true, false, not}
 use mathlib.Core.List.{List, [], _∷_}
+use mathlib.Core.Logic.{_↔_}
 use mathlib.Core.Path.{_≡_, refl, sym, ap, _∙_}
 use native.Mathlib.Omega.{arith}
 use lib.Dec.{leb, ltb, eqb}
@@ -19,7 +20,7 @@ use Rattle.state.specs.Machine.{goodCount, threadAt, refusedOf}
 use Rattle.state.specs.declared.access.Kind.{Kind}
 use Rattle.state.specs.declared.answer.Answer.{Answer}
 use Rattle.state.specs.declared.answer.Refusal.{Refusal}
-use Rattle.state.specs.declared.answer.Refusal.the-variants.{UnknownCode, NoThread, InsideCall, WrongHolding, Damaged}
+use Rattle.state.specs.declared.answer.Refusal.the-variants.{UnknownCode, NoThread, InsideCall, WrongHolding, NotInCall, NoToken, CannotFail, Damaged}
 use Rattle.state.specs.declared.answer.Reply.{Reply}
 use Rattle.state.specs.declared.answer.Reply.the-variants.{Accepted, Refused}
 use Rattle.state.specs.declared.answer.Verdict.{Verdict}
@@ -41,6 +42,7 @@ use Rattle.lock.specs.declared.code.Call.{Call}
 use Rattle.lock.specs.declared.code.Code.{Code}
 use Rattle.lock.specs.declared.code.Code.the-variants.{Begin, Step, Fail, Unknown}
 use Rattle.promises.specs.Refusals.{and, or, numberGiven, Row, row, firstOf, idle, asleep, mayFail, begins, steps, wrongHolding, damaged, stepRows, refusalRows}
+use Rattle.promises.specs.RefusalFirst.{First, NoneGiven, first-exactly, none-exactly}
 use Rattle.promises.specs.RefusalSteps.{step-table}
 
 -- ── a test and its row ──
@@ -225,3 +227,41 @@ pub refused-unchanged : (m : Machine) (code : ℕ) (t : ThreadNumber) (r : Refus
     → eventOf m code t .reply ≡ Refused r
     → eventOf m code t .machine ≡ m
 refused-unchanged m code t r e = unchanged (event-settled m code t) r e
+
+-- ── each number exactly on its condition, in its order ──
+
+-- the refusal of a number
+named : ℕ → Refusal
+named n =
+    pick (eqb n 1) UnknownCode
+    (pick (eqb n 2) NoThread
+    (pick (eqb n 3) InsideCall
+    (pick (eqb n 4) WrongHolding (pick (eqb n 5) NotInCall (pick (eqb n 6) NoToken (pick (eqb n 7) CannotFail Damaged))))))
+
+number-named : (r : Refusal) → (named (refusalNumber r) ≡ r) × (0 < refusalNumber r)
+unfolding named
+number-named UnknownCode = (refl, omega arith)
+number-named NoThread = (refl, omega arith)
+number-named InsideCall = (refl, omega arith)
+number-named WrongHolding = (refl, omega arith)
+number-named NotInCall = (refl, omega arith)
+number-named NoToken = (refl, omega arith)
+number-named CannotFail = (refl, omega arith)
+number-named Damaged = (refl, omega arith)
+
+-- the number tells the refusal
+reply-number : (y : Reply) (r : Refusal) → numberGiven y ≡ refusalNumber r → y ≡ Refused r
+reply-number (Accepted a woken) r e = absurd (omega (arith, number-named r .1))
+reply-number (Refused s) r e = ap Refused (sym (number-named s .0) ∙ ap named e ∙ number-named r .0)
+
+-- an event is refused so exactly where a row of that number is the first of the table whose condition holds
+pub refused-exactly : (m : Machine) (code : ℕ) (t : ThreadNumber) (r : Refusal)
+    → (eventOf m code t .reply ≡ Refused r) ↔ First (refusalNumber r) (refusalRows m code t)
+refused-exactly m code t r =
+    let exactly = first-exactly (refusalNumber r) (refusalRows m code t) (number-named r .1) in
+    (λ e. exactly .0 (sym (refusal-table m code t) ∙ ap numberGiven e),
+    λ f. reply-number (eventOf m code t .reply) r (refusal-table m code t ∙ exactly .1 f))
+
+-- an event is accepted exactly where no row's condition holds
+pub accepted-exactly : (m : Machine) (code : ℕ) (t : ThreadNumber) → (numberGiven (eventOf m code t .reply) ≡ 0) ↔ NoneGiven (refusalRows m code t)
+accepted-exactly m code t = rw (refusal-table m code t) (none-exactly (refusalRows m code t) refl)
