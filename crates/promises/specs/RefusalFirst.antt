@@ -30,7 +30,10 @@ first-given : (n : ℕ) (rows : List Row) → 0 < n → firstOf rows ≡ n → F
 first-given n [] some e = absurd (omega arith)
 first-given n (r ∷ rows) some e = by-test (r .given-when) refl e (first-given n rows some)
   where
-    by-test : (b : Bool) → r .given-when ≡ b → pick b (r .number) (firstOf rows) ≡ n → (firstOf rows ≡ n → First n rows) → First n (r ∷ rows)
+    by-test : (b : Bool) → r .given-when ≡ b
+        → pick b (r .number) (firstOf rows) ≡ n
+        → (firstOf rows ≡ n → First n rows)
+        → First n (r ∷ rows)
     by-test true h e later = here h e
     by-test false h e later = there h (later e)
 
@@ -44,7 +47,11 @@ none-given (r ∷ rows) ok e =
     let each = pick-first (ltb 0 (r .number)) (numbered rows) false true (λ h. subst T (sym h) tt) ok in
     by-test (r .given-when) refl e (ltb-true 0 (r .number) (each .0)) (none-given rows (each .1))
   where
-    by-test : (b : Bool) → r .given-when ≡ b → pick b (r .number) (firstOf rows) ≡ 0 → 0 < r .number → (firstOf rows ≡ 0 → NoneGiven rows) → NoneGiven (r ∷ rows)
+    by-test : (b : Bool) → r .given-when ≡ b
+        → pick b (r .number) (firstOf rows) ≡ 0
+        → 0 < r .number
+        → (firstOf rows ≡ 0 → NoneGiven rows)
+        → NoneGiven (r ∷ rows)
     by-test true h e some later = absurd (omega arith)
     by-test false h e some later = past h (later e)
 

@@ -1,14 +1,13 @@
 -- The refusal table holds: an event gives the number of the table's first row whose condition holds, and a refused event changes nothing. Assumes nothing.
 use Prim.Native.Nat.{ℕ, zero, suc, _≤_, _<_, _+_}
 use mathlib.Core.Bool.{Bool, true, false, not}
-use mathlib.Core.List.{List, [], _∷_}
+use mathlib.Core.List.{[], _∷_}
 use mathlib.Core.Logic.{_↔_}
 use mathlib.Core.Path.{_≡_, refl, sym, ap, _∙_}
 use native.Mathlib.Omega.{arith}
 use lib.Dec.{leb, ltb, eqb}
 use borrow.Author.Tests.{leb-true, leb-false, eqb-true}
 use Rattle.word.specs.Base.{pick}
-use Rattle.word.specs.Number.{thread}
 use Rattle.word.specs.declared.number.ThreadNumber.{ThreadNumber}
 use Rattle.word.specs.declared.number.Slot.{Slot}
 use Rattle.word.specs.declared.number.Slot.the-variants.{Outside, At}
@@ -17,7 +16,6 @@ use Rattle.state.specs.Access.{accessOf}
 use Rattle.state.specs.Answer.{refusalNumber}
 use Rattle.state.specs.Holding.{readsOf, writesOf}
 use Rattle.state.specs.Machine.{goodCount, threadAt, refusedOf}
-use Rattle.state.specs.declared.access.Kind.{Kind}
 use Rattle.state.specs.declared.answer.Answer.{Answer}
 use Rattle.state.specs.declared.answer.Refusal.{Refusal}
 use Rattle.state.specs.declared.answer.Refusal.the-variants.{UnknownCode, NoThread, InsideCall, WrongHolding, NotInCall, NoToken, CannotFail, Damaged}
@@ -33,15 +31,14 @@ use Rattle.state.specs.declared.place.Place.{Place}
 use Rattle.state.specs.declared.place.Place.the-variants.{Idle, TryReadLoad, TryReadCas, TryWriteOr, ContendLoad, ContendCas, RegisterCas, CompletedLoad, Park, WalkTail, WalkNext, WalkPrev, WalkHead, QueueCas, SplitPrev, SplitStore, SplitCas, SplitRestore, TakeCas, WakePrev, WakeStore, ReadUnlockLoad, ReadUnlockCas, Subtract, WriteUnlockCas, ReleaseCas, DowngradeCas, DowngradeSlowCas}
 use Rattle.state.specs.declared.view.Stepped.{Stepped}
 use Rattle.state.specs.declared.view.Stepped.the-variants.{To, Refused as StepRefused}
-use Rattle.lock.specs.Begin.{holdsNothing, mayBegin, isIdle, beganOf, beginOf}
+use Rattle.lock.specs.Begin.{holdsNothing, mayBegin, isIdle, beginOf}
 use Rattle.lock.specs.Code.{callOf, codeOf}
-use Rattle.lock.specs.Event.{calledOf, steppedOf, eventBy, eventOf}
+use Rattle.lock.specs.Event.{steppedOf, eventBy, eventOf}
 use Rattle.lock.specs.Landed.{landedOf}
-use Rattle.lock.specs.Step.{haltedOf, touchingBy, stepBy, stepAt, stepOf}
-use Rattle.lock.specs.declared.code.Call.{Call}
+use Rattle.lock.specs.Step.{touchingBy, stepBy, stepOf}
 use Rattle.lock.specs.declared.code.Code.{Code}
 use Rattle.lock.specs.declared.code.Code.the-variants.{Begin, Step, Fail, Unknown}
-use Rattle.promises.specs.Refusals.{and, or, numberGiven, Row, row, firstOf, idle, asleep, mayFail, begins, steps, wrongHolding, damaged, stepRows, refusalRows}
+use Rattle.promises.specs.Refusals.{numberGiven, row, firstOf, idle, wrongHolding, stepRows, refusalRows}
 use Rattle.promises.specs.RefusalFirst.{First, NoneGiven, first-exactly, none-exactly}
 use Rattle.promises.specs.RefusalSteps.{step-table}
 
@@ -151,36 +148,38 @@ code-is code = by-tests (leb code 6) (eqb code 16) (eqb code 17) (leb-true code 
     by-tests false false true p q r = a-fail
     by-tests false false false p q r = unknown
 
--- the table from 1 on, by the tests of the code
-abbrev rowsBy : Machine → ThreadNumber → Bool → Bool → Bool → Bool → Kind → List Row
-rowsBy m t b s f wrong k =
-    row 1 (not (or b (or s f))) ∷
-    row 2 (leb (m .count) (t .0)) ∷
-    row 3 (and b (not (idle k))) ∷
-    row 4 (and b wrong) ∷
-    row 5 (and (or s f) (idle k)) ∷
-    row 6 (and s (and (asleep k) (not (threadAt m (t .0) .token)))) ∷
-    row 7 (and f (not (mayFail k))) ∷
-    row 8 (and (or s f) (damaged m t (threadAt m (t .0) .place))) ∷
-    []
-
--- 1, 2, then the rows of a begin or of a step
-by-code : (m : Machine) (code : ℕ) (t : ThreadNumber) {b s f : Bool} → Code-is b s f → (b ≡ true → code ≤ 6)
-    → numberGiven (eventBy m (pick b (Begin (callOf code)) (pick s Step (pick f Fail Unknown))) t .reply)
-    ≡ firstOf
-    (rowsBy m t b s f (wrongHolding code (threadAt m (t .0) .holding)) (accessOf t (threadAt m (t .0) .place) .kind))
+-- 2, then the rows of a step
+stepped-table : (m : Machine) (t : ThreadNumber) (fails : Bool)
+    → numberGiven (steppedOf m t fails .reply)
+    ≡ firstOf (row 2 (leb (m .count) (t .0)) ∷ stepRows m (pick fails 17 16) t (threadAt m (t .0) .place))
 unfolding stepOf
-by-code m code t a-begin h = row-when 2 _ (leb (m .count) (t .0)) _ _ refl (λ _. begin-table m t code (h refl))
-by-code m code t a-step h =
-    row-when 2 _ (leb (m .count) (t .0)) _ _ refl (λ e. step-table m t (leb-false _ _ e) false (threadAt m (t .0) .place))
-by-code m code t a-fail h =
-    row-when 2 _ (leb (m .count) (t .0)) _ _ refl (λ e. step-table m t (leb-false _ _ e) true (threadAt m (t .0) .place))
-by-code m code t unknown h = refl
+stepped-table m t fails =
+    row-when 2 _ (leb (m .count) (t .0)) _ _ refl
+    (λ e. step-table m t (leb-false (m .count) (t .0) e) fails (threadAt m (t .0) .place))
+
+-- 8 for the count, before the rest
+counted : (m : Machine) (later : ℕ) (rest : Outcome) → numberGiven (rest .reply) ≡ later
+    → numberGiven (pick (goodCount (m .count)) rest (refusedOf m Damaged) .reply) ≡ pick (not (goodCount (m .count))) 8 later
+counted m later rest p = row-unless 8 later (goodCount (m .count)) _ rest _ refl refl (λ _. p)
+
+-- then 1, 2 and the rows of a begin or of a step
+by-code : (m : Machine) (code : ℕ) (t : ThreadNumber) {b s f : Bool} → Code-is b s f
+    → leb code 6 ≡ b
+    → eqb code 16 ≡ s
+    → eqb code 17 ≡ f
+    → numberGiven (eventOf m code t .reply) ≡ firstOf (refusalRows m code t)
+unfolding eventOf
+by-code m code t a-begin eb es ef =
+    rw (eb, es, ef)
+    (counted m _ _ (row-when 2 _ (leb (m .count) (t .0)) _ _ refl (λ _. begin-table m t code (leb-true code 6 eb))))
+by-code m code t a-step eb es ef = rw (eb, es, ef) (counted m _ _ (stepped-table m t false))
+by-code m code t a-fail eb es ef = rw (eb, es, ef) (counted m _ _ (stepped-table m t true))
+by-code m code t unknown eb es ef = rw (eb, es, ef) (counted m 1 _ refl)
 
 -- the number given is that of the first row whose condition holds
-pub refusal-table : (m : Machine) (code : ℕ) (t : ThreadNumber) → numberGiven (eventOf m code t .reply) ≡ firstOf (refusalRows m code t)
-unfolding eventOf
-refusal-table m code t = row-unless 8 _ (goodCount (m .count)) _ _ _ refl refl (λ _. by-code m code t (code-is code) (leb-true code 6))
+pub refusal-table : (m : Machine) (code : ℕ) (t : ThreadNumber)
+    → numberGiven (eventOf m code t .reply) ≡ firstOf (refusalRows m code t)
+refusal-table m code t = by-code m code t (code-is code) refl refl refl
 
 -- ── a refused event ──
 
@@ -258,10 +257,12 @@ reply-number (Refused s) r e = ap Refused (sym (number-named s .0) ∙ ap named 
 pub refused-exactly : (m : Machine) (code : ℕ) (t : ThreadNumber) (r : Refusal)
     → (eventOf m code t .reply ≡ Refused r) ↔ First (refusalNumber r) (refusalRows m code t)
 refused-exactly m code t r =
-    let exactly = first-exactly (refusalNumber r) (refusalRows m code t) (number-named r .1) in
-    (λ e. exactly .0 (sym (refusal-table m code t) ∙ ap numberGiven e),
-    λ f. reply-number (eventOf m code t .reply) r (refusal-table m code t ∙ exactly .1 f))
+    let exactly = first-exactly (refusalNumber r) (refusalRows m code t) (number-named r .1) in (
+      λ e. exactly .0 (sym (refusal-table m code t) ∙ ap numberGiven e),
+      λ f. reply-number (eventOf m code t .reply) r (refusal-table m code t ∙ exactly .1 f),
+    )
 
 -- an event is accepted exactly where no row's condition holds
-pub accepted-exactly : (m : Machine) (code : ℕ) (t : ThreadNumber) → (numberGiven (eventOf m code t .reply) ≡ 0) ↔ NoneGiven (refusalRows m code t)
+pub accepted-exactly : (m : Machine) (code : ℕ) (t : ThreadNumber)
+    → (numberGiven (eventOf m code t .reply) ≡ 0) ↔ NoneGiven (refusalRows m code t)
 accepted-exactly m code t = rw (refusal-table m code t) (none-exactly (refusalRows m code t) refl)

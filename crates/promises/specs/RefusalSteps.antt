@@ -1,19 +1,18 @@
 -- The refusal table at a step: which places' rules refuse, and that 5, 6, 7 and 8 are given as the table says. Assumes nothing.
 use Prim.Native.Nat.{ℕ, _+_, _-_, _<_}
 use mathlib.Core.Bool.{Bool, true, false, not}
-use mathlib.Core.List.{List, [], _∷_}
+use mathlib.Core.List.{[], _∷_}
 use mathlib.Core.Path.{_≡_, refl, sym, ap, subst, _∙_}
 use native.Mathlib.Omega.{arith}
-use lib.Dec.{T, ltb, leb, eqb}
+use lib.Dec.{T, ltb, eqb}
 use borrow.Author.Tests.{eqb-true, le-ltb}
 use Rattle.word.specs.Base.{pick}
 use Rattle.word.specs.Cases.{pick-both, pick-second}
 use Rattle.word.specs.Flags.{word, LOCKED, SINGLE, locked, queued, downgraded}
-use Rattle.word.specs.Number.{nodeOf, slotOf}
-use Rattle.word.specs.Rules.{readLockOf, writeLockOf, readUnlockOf, fewer}
+use Rattle.word.specs.Number.{nodeOf}
+use Rattle.word.specs.Rules.{readLockOf, readUnlockOf}
 use Rattle.word.specs.declared.flags.Word.{Word}
 use Rattle.word.specs.declared.number.NodeNumber.{NodeNumber}
-use Rattle.word.specs.declared.number.Slot.{Slot}
 use Rattle.word.specs.declared.number.Slot.the-variants.{Outside, At}
 use Rattle.word.specs.declared.number.ThreadNumber.{ThreadNumber}
 use Rattle.word.specs.declared.rules.ReadLocked.{ReadLocked}
@@ -21,8 +20,7 @@ use Rattle.word.specs.declared.rules.ReadLocked.the-variants.{To as ReadTo, Ref
 use Rattle.word.specs.declared.rules.ReadUnlocked.{ReadUnlocked}
 use Rattle.word.specs.declared.rules.ReadUnlocked.the-variants.{To as UnlockTo, Contended, Refused as UnlockRefused}
 use Rattle.state.specs.Access.{accessOf, touchedAt, touchedOf}
-use Rattle.state.specs.Answer.{refusalNumber}
-use Rattle.state.specs.Machine.{threadAt, nodeAt, refusedOf}
+use Rattle.state.specs.Machine.{threadAt, nodeAt}
 use Rattle.state.specs.View.{agreesOf}
 use Rattle.state.specs.declared.access.Kind.{Kind}
 use Rattle.state.specs.declared.access.Kind.the-variants.{Nothing, Load, Store, WeakCompare, StrongCompare, FetchOr, Subtract as Subtracting, Complete, Park as Parking}
@@ -38,8 +36,7 @@ use Rattle.state.specs.declared.place.Walk.{Walk}
 use Rattle.state.specs.declared.place.Walk.the-variants.{Queue, ReadUnlock, Downgrade}
 use Rattle.state.specs.declared.place.Who.{Who}
 use Rattle.state.specs.declared.view.Change.{Change}
-use Rattle.state.specs.declared.view.Mark.{Mark}
-use Rattle.state.specs.declared.view.Mark.the-variants.{Missing, Reader, Writer}
+use Rattle.state.specs.declared.view.Mark.the-variants.{Reader, Writer}
 use Rattle.state.specs.declared.view.Stepped.{Stepped}
 use Rattle.state.specs.declared.view.Stepped.the-variants.{To, Refused}
 use Rattle.state.specs.declared.view.View.{View}
@@ -51,7 +48,7 @@ use Rattle.release.specs.AfterWalk.{markedBy, walkedOf}
 use Rattle.release.specs.ReadUnlock.{readUnlockBy, readUnlockCasBy, readUnlockJudged, readUnlockCasOf}
 use Rattle.lock.specs.Advance.{advanceOf}
 use Rattle.lock.specs.Landed.{landedOf}
-use Rattle.lock.specs.Step.{haltedOf, markedOf, markAt, markBy, markOf, viewAt, reachedAt, touchingBy, stepBy, stepAt}
+use Rattle.lock.specs.Step.{haltedOf, markedOf, markBy, markOf, viewAt, touchingBy, stepBy, stepAt}
 use Rattle.promises.specs.Refusals.{and, or, numberGiven, row, firstOf, idle, asleep, mayFail, outside, anyOutside, accessed, markRead, thenTouched, belowOne, subtractsBelow, damaged, stepRows}
 
 -- ── the rules ──
@@ -206,7 +203,8 @@ rule-gives m t fails (DowngradeSlowCas _) h = search going
 abbrev eightIf : Bool → ℕ
 eightIf b = pick b 8 0
 
-landed-number : (m : Machine) (i k : ℕ) {s : Stepped} {flag : Bool} → Gives s flag → numberGiven (landedOf m i k s .reply) ≡ eightIf flag
+landed-number : (m : Machine) (i k : ℕ) {s : Stepped} {flag : Bool} → Gives s flag
+    → numberGiven (landedOf m i k s .reply) ≡ eightIf flag
 landed-number m i k (goes c) = refl
 landed-number m i k refuses = refl
 
@@ -244,7 +242,8 @@ fine-number m t h fails p busy =
     rest = or (anyOutside (m .count) (thenTouched p)) (subtractsBelow m p)
 
     by-slot : (low high : Bool)
-        → numberGiven (touchingBy m t fails p (pick low Outside (pick high Outside (At (n .0 - 1)))) .reply) ≡ pick (or low high) 8 (eightIf rest)
+        → numberGiven (touchingBy m t fails p (pick low Outside (pick high Outside (At (n .0 - 1)))) .reply)
+        ≡ pick (or low high) 8 (eightIf rest)
     by-slot true high = refl
     by-slot false true = refl
     by-slot false false = landed-number m (t .0) (n .0 - 1) (rule-gives m t fails p busy)
@@ -279,6 +278,7 @@ halted-number m t p Complete token false damage fine = fine refl
 -- a step that does not fail is code 16, and one that does 17
 pub step-table : (m : Machine) (t : ThreadNumber) → t .0 < m .count → (fails : Bool) (p : Place)
     → numberGiven (stepAt m t fails p .reply) ≡ firstOf (stepRows m (pick fails 17 16) t p)
-step-table m t h true p = halted-number m t p (accessOf t p .kind) (threadAt m (t .0) .token) true (damaged m t p) (fine-number m t h true p)
+step-table m t h true p =
+    halted-number m t p (accessOf t p .kind) (threadAt m (t .0) .token) true (damaged m t p) (fine-number m t h true p)
 step-table m t h false p =
     halted-number m t p (accessOf t p .kind) (threadAt m (t .0) .token) false (damaged m t p) (fine-number m t h false p)
