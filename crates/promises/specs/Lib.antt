@@ -1,8 +1,12 @@
 pub mod Refusals
+pub mod RefusalFirst
 pub mod Shared
+pub mod Statements
+pub mod RefusalSteps
+pub mod RefusalProofs
 pub mod Obeys
 pub mod Happened
-pub mod Statements
 pub mod Places
 pub mod Stored
+pub mod Changes
 pub mod Theorems

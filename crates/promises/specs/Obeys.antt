@@ -111,7 +111,7 @@ other-word a b h = ap not (ne-eqb a b h)
 agrees-fails : (v : View) (seen : Word) → agreesOf v seen ≡ true → v .fails ≡ true → ⊥
 agrees-fails v seen e f = true-not-false (sym e ∙ (rw f))
 
-agrees-word : (v : View) (seen : Word) → agreesOf v seen ≡ true → v .word .0 ≡ seen .0
+pub agrees-word : (v : View) (seen : Word) → agreesOf v seen ≡ true → v .word .0 ≡ seen .0
 agrees-word v seen e =
     eqb-true (v .word .0) (seen .0) (pick-both (λ (b : Bool). b ≡ true → eqb (v .word .0) (seen .0) ≡ true) (v .fails) false (eqb (v .word .0) (seen .0)) (λ f g. absurd (true-not-false (sym g))) (λ f g. g) e)
 
