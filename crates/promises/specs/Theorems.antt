@@ -51,14 +51,14 @@ use Rattle.lock.specs.Advance.{advanceOf}
 use Rattle.lock.specs.Event.{eventOf}
 use Rattle.lock.specs.Effect.{LockEffect, Stand, Effect, effectOf, lockEffect, standOf, keeps, stands, heldAfter, grants, wordChanged}
 use Rattle.promises.specs.Refusals.{and, begins, steps}
-use Rattle.promises.specs.RefusalProofs.{refused-unchanged}
+use Rattle.promises.specs.RefusalProofs.{refusal-table, refused-unchanged}
 use Rattle.promises.specs.Shared.{Unless, Obeys, lockDone, keptBut, keptBy, fills, writesWord, isWeak, takesToken, tries, acquires, isYes, isDone}
 use Rattle.promises.specs.Obeys.{All, obeys, kept-same}
 use Rattle.promises.specs.Changes.{Moves, moves}
 use Rattle.promises.specs.Happened.{Begun, Stepping, Happened, begun, stepped, happened}
 use Rattle.promises.specs.Places.{fills-own, idle-is, effect-kind, still-lock, still-queue}
 use Rattle.promises.specs.Stored.{get-set, woken-count, woken-word, woken-nodes, Woken, as-before, with-token, woken-thread, woken-place, woken-holding, woken-long}
-use Rattle.promises.specs.Statements.{Sized, after, placeOf, accessAt, NodeAfter, same, accessed, filled, TokenAfter, kept, taken, set as token-set, AtAccess, OneAccess, NothingShared, BeginSharesNothing, FailureWritesNothing, Little, ChangesLittle, HoldingFollowsEffect, RefusedHasNoEffect, HoldingChangesAtTheWord, HoldingChangesWithTheWord, asserted, AnsweredAtTheGrant, StaysSized, subtracting}
+use Rattle.promises.specs.Statements.{RefusalTable, RefusedUnchanged, Sized, after, placeOf, accessAt, NodeAfter, same, accessed, filled, TokenAfter, kept, taken, set as token-set, AtAccess, OneAccess, NothingShared, BeginSharesNothing, FailureWritesNothing, Little, ChangesLittle, HoldingFollowsEffect, RefusedHasNoEffect, HoldingChangesAtTheWord, HoldingChangesWithTheWord, asserted, AnsweredAtTheGrant, StaysSized, subtracting}
 
 -- ── small laws ──
 
@@ -225,9 +225,10 @@ module _ (m : Machine) (code : ℕ) (t : ThreadNumber) (a : Answer) (w : Owner) 
     step-holding = own-holding ∙ (obeyed .holding ∙ sym (ap (λ (x : LockEffect). heldAfter x (threadAt m (t .0) .holding)) effect-is))
 
     step-answers : (isYes a ≡ and (tries here) (grants (effectOf t m next .lock))) × (Unless (not (acquires here)) (isDone a ≡ grants (effectOf t m next .lock)))
-    step-answers =
-        (ap isYes (sym answered) ∙ (obeyed .yes ∙ sym (ap (λ (x : LockEffect). and (tries here) (grants x)) effect-is)),
-        unless-map (not (acquires here)) (λ h. ap isDone (sym answered) ∙ (h ∙ sym (ap grants effect-is))) (obeyed .done))
+    step-answers = (
+      ap isYes (sym answered) ∙ (obeyed .yes ∙ sym (ap (λ (x : LockEffect). and (tries here) (grants x)) effect-is)),
+      unless-map (not (acquires here)) (λ h. ap isDone (sym answered) ∙ (h ∙ sym (ap grants effect-is))) (obeyed .done),
+    )
 
     -- where the holding changed, the word did
     step-moves : asserted here ≡ true → (effectOf t m next .lock ≡ keeps) ⊎ ((wordChanged m next ≡ true) ⊎ (subtracting here ≡ true))
@@ -302,9 +303,10 @@ module _ (m : Machine) (code : ℕ) (t : ThreadNumber) (b : Begun m code t (even
   begun-answers a w e =
       let i = idle-is (placeOf m t) (b .idle) in
       let r : Accepted BegunAnswer Nobody ≡ Accepted a w = sym (ap (λ (o : Outcome). o .reply) (b .is)) ∙ e in
-      let is : BegunAnswer ≡ a = cc in
-      (ap isYes (sym is) ∙ ap (λ (p : Place). and (tries p) (grants (effectOf t m (after m code t) .lock))) (sym i),
-      subst (λ (p : Place). Unless (not (acquires p)) (isDone a ≡ grants (effectOf t m (after m code t) .lock))) (sym i) tt)
+      let is : BegunAnswer ≡ a = cc in (
+        ap isYes (sym is) ∙ ap (λ (p : Place). and (tries p) (grants (effectOf t m (after m code t) .lock))) (sym i),
+        subst (λ (p : Place). Unless (not (acquires p)) (isDone a ≡ grants (effectOf t m (after m code t) .lock))) (sym i) tt,
+      )
 
   begun-sized : Sized m → Sized (after m code t)
   begun-sized z =
@@ -360,9 +362,10 @@ failure-writes-nothing m t a w weak e = by (happened m 17 t a w e)
         (failed-word m 17 t a w e s weak (fails-17 (s .fails) (s .codes)), λ j. failed-node m 17 t a w e s weak (fails-17 (s .fails) (s .codes)) j (one-node m 17 t a w e s j))
 
 pub refused-has-no-effect : RefusedHasNoEffect
-refused-has-no-effect m t =
-    (ap (λ (b : Bool). lockEffect (placeOf m t) (threadAt m (t .0) .holding) (not b) (standOf (placeOf m t))) (eq-eqb (m .word .0) (m .word .0) refl) ∙ still-lock (placeOf m t) (threadAt m (t .0) .holding),
-    still-queue t (placeOf m t))
+refused-has-no-effect m t = (
+  ap (λ (b : Bool). lockEffect (placeOf m t) (threadAt m (t .0) .holding) (not b) (standOf (placeOf m t))) (eq-eqb (m .word .0) (m .word .0) refl) ∙ still-lock (placeOf m t) (threadAt m (t .0) .holding),
+  still-queue t (placeOf m t),
+)
 
 pub stays-sized : StaysSized
 stays-sized m code t z = by (eventOf m code t .reply) refl
@@ -370,6 +373,7 @@ stays-sized m code t z = by (eventOf m code t .reply) refl
     accepted : (a : Answer) (w : Owner) → eventOf m code t .reply ≡ Accepted a w → Happened m code t (eventOf m code t) → Sized (after m code t)
     accepted a w e (begun b) = begun-sized m code t b z
     accepted a w e (stepped s) = step-sized m code t a w e s z
+
     by : (r : Reply) → eventOf m code t .reply ≡ r → Sized (after m code t)
     by (Accepted a w) e = accepted a w e (happened m code t a w e)
     by (Refused r) e = subst Sized (sym (refused-unchanged m code t r e)) z
@@ -379,9 +383,11 @@ holding-follows-effect m code t z = by (eventOf m code t .reply) refl
   where
     Follows : Machine → Type 0
     Follows x = threadAt x (t .0) .holding ≡ heldAfter (effectOf t m x .lock) (threadAt m (t .0) .holding)
+
     accepted : (a : Answer) (w : Owner) → eventOf m code t .reply ≡ Accepted a w → Happened m code t (eventOf m code t) → Follows (after m code t)
     accepted a w e (begun b) = ap (λ (x : Machine). threadAt x (t .0) .holding) (begun-is m code t b) ∙ (begun-holding m code t b (t .0) ∙ sym (ap (λ (x : LockEffect). heldAfter x (threadAt m (t .0) .holding)) (begun-effect m code t b)))
     accepted a w e (stepped s) = step-holding m code t a w e s z
+
     by : (r : Reply) → eventOf m code t .reply ≡ r → Follows (after m code t)
     by (Accepted a w) e = accepted a w e (happened m code t a w e)
     by (Refused r) e = subst Follows (sym (refused-unchanged m code t r e)) (sym (ap (λ (x : LockEffect). heldAfter x (threadAt m (t .0) .holding)) (refused-has-no-effect m t .0)))
@@ -419,3 +425,11 @@ holding-changes-with-the-word m code t a w z ok e = by-thread m code t a w e (by
     by : Happened m code t (eventOf m code t) → (threadAt (after m code t) (t .0) .holding ≡ threadAt m (t .0) .holding) ⊎ ((wordChanged m (after m code t) ≡ true) ⊎ (subtracting (placeOf m t) ≡ true))
     by (begun b) = inl (own-kept m code t z (begun-effect m code t b))
     by (stepped s) = ⊎-elim (λ h. inl (own-kept m code t z h)) inr (step-moves m code t a w e s z ok)
+
+-- ── the refusals, proved in RefusalProofs.antt ──
+
+pub each-refusal-exactly : RefusalTable
+each-refusal-exactly = refusal-table
+
+pub refusal-changes-nothing : RefusedUnchanged
+refusal-changes-nothing = refused-unchanged
