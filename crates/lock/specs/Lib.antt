@@ -6,3 +6,4 @@ pub mod Step
 pub mod Event
 pub mod Laws
 pub mod Effect
+pub mod Determined
