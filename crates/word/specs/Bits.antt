@@ -43,16 +43,15 @@ module _ (f n : ℕ) (some : 0 < f) where
       }
 
 -- the part above a flag
-pub higher : (f n m k : ℕ) → But f n m → n / (f * 2 * k) ≡ m / (f * 2 * k)
-higher f n m k but = simp (← div-div-eq-div-mul, but .above)
+pub higher : (f g k n m : ℕ) → f * 2 * k ≡ g → But f n m → n / g ≡ m / g
+higher f g k n m is but = rw (← is) (simp (← div-div-eq-div-mul, but .above))
 
 -- a flag g below f is one of the remainder
-low : (g k n : ℕ) → 0 < g → n / g % 2 ≡ n % (g * 2 * k) / g % 2
-low g k n some =
-    let f : ℕ = g * 2 * k in
-    let whole : n % f + g * (2 * (k * (n / f))) ≡ n = simp mul-assoc (simp mul-assoc at (mod-add-div n f)) in
+low : (f g k n : ℕ) → g * 2 * k ≡ f → 0 < g → n / g % 2 ≡ n % f / g % 2
+low f g k n is some =
+    let whole : n % f + g * (2 * (k * (n / f))) ≡ n = simp (← mul-assoc, is) (mod-add-div n f) in
     let parts : n / g ≡ n % f / g + 2 * (k * (n / f)) = rw whole at (add-mul-div-left (n % f) (2 * (k * (n / f))) some) in
     omega arith
 
-pub lower : (g k n m : ℕ) → 0 < g → But (g * 2 * k) n m → n / g % 2 ≡ m / g % 2
-lower g k n m some but = low g k n some ∙ ap (λ (r : ℕ). r / g % 2) (but .below) ∙ sym (low g k m some)
+pub lower : (f g k n m : ℕ) → g * 2 * k ≡ f → 0 < g → But f n m → n / g % 2 ≡ m / g % 2
+lower f g k n m is some but = low f g k n is some ∙ ap (λ (r : ℕ). r / g % 2) (but .below) ∙ sym (low f g k m is some)

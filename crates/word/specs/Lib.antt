@@ -5,3 +5,5 @@ pub mod Flags
 pub mod Rules
 pub mod Cases
 pub mod Laws
+pub mod Table
+pub mod Determined
