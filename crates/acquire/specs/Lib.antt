@@ -2,3 +2,4 @@ pub mod TryRead
 pub mod TryWrite
 pub mod LockContended
 pub mod Wait
+pub mod Determined

@@ -4,3 +4,4 @@ pub mod ReadUnlock
 pub mod WriteUnlock
 pub mod UnlockContended
 pub mod Downgrade
+pub mod Determined

@@ -1,2 +1,3 @@
 pub mod FindTail
 pub mod CompleteAll
+pub mod Determined

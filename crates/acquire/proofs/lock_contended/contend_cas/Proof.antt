@@ -1,4 +1,4 @@
--- `acquire::lock_contended::contend_cas` meets its contract: each answer by the tests that led to it. Assumes nothing.
+-- `acquire::lock_contended::contend_cas` meets its contract: an agreeing compare by the lock rule's answer on the word seen, another by the word reported. Assumes nothing.
 use borrow.Author.Needs.{needs}
 use mathlib.Core.Path.{sym}
 use Rattle.acquire.proofs.lock_contended.contend_cas.Statement.{statement}

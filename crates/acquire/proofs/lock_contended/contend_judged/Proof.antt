@@ -1,4 +1,4 @@
--- `acquire::lock_contended::contend_judged` meets its contract: each answer by the tests that led to it. Assumes nothing.
+-- `acquire::lock_contended::contend_judged` meets its contract: each arm by the lock rule's answer that it matches. Assumes nothing.
 use borrow.Author.Needs.{needs}
 use mathlib.Core.Path.{sym}
 use Rattle.acquire.proofs.lock_contended.contend_judged.Statement.{statement}

@@ -1,4 +1,4 @@
--- `acquire::lock_contended::lock_rule` meets its contract: each answer by the tests that led to it. Assumes nothing.
+-- `acquire::lock_contended::lock_rule` meets its contract: each arm hands on the answer of the call's own lock rule. Assumes nothing.
 use borrow.Author.Needs.{needs}
 use mathlib.Core.Path.{sym}
 use Rattle.acquire.proofs.lock_contended.lock_rule.Statement.{statement}

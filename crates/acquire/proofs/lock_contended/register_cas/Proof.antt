@@ -1,4 +1,4 @@
--- `acquire::lock_contended::register_cas` meets its contract: each answer by the tests that led to it. Assumes nothing.
+-- `acquire::lock_contended::register_cas` meets its contract: the walk starts from the word written, and a failed compare is judged on the word reported. Assumes nothing.
 use borrow.Author.Needs.{needs}
 use mathlib.Core.Path.{sym}
 use Rattle.acquire.proofs.lock_contended.register_cas.Statement.{statement}

@@ -1,4 +1,4 @@
--- `acquire::lock_contended::reload_or_fill` meets its contract: each answer by the tests that led to it. Assumes nothing.
+-- `acquire::lock_contended::reload_or_fill` meets its contract: each answer by the tests that led to it, and one more reload is in range by the second. Assumes nothing.
 use borrow.Author.Needs.{needs}
 use mathlib.Core.Path.{sym}
 use borrow.Author.Tests.{lt-ltb, le-ltb}

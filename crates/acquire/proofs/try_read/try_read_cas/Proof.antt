@@ -1,4 +1,4 @@
--- `acquire::try_read::try_read_cas` meets its contract: each answer by the tests that led to it. Assumes nothing.
+-- `acquire::try_read::try_read_cas` meets its contract: an agreeing compare by read_lock's answer on the word seen, another by the word reported. Assumes nothing.
 use borrow.Author.Needs.{needs}
 use mathlib.Core.Path.{sym}
 use Rattle.acquire.proofs.try_read.try_read_cas.Statement.{statement}

@@ -1,4 +1,4 @@
--- `acquire::try_read::try_read_judged` meets its contract: each answer by the tests that led to it. Assumes nothing.
+-- `acquire::try_read::try_read_judged` meets its contract: each arm by the answer of read_lock that it matches. Assumes nothing.
 use borrow.Author.Needs.{needs}
 use mathlib.Core.Path.{sym}
 use Rattle.acquire.proofs.try_read.try_read_judged.Statement.{statement}

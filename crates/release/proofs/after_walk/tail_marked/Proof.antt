@@ -1,4 +1,4 @@
--- `release::after_walk::tail_marked` meets its contract: each answer by the tests that led to it. Assumes nothing.
+-- `release::after_walk::tail_marked` meets its contract: each arm by the mark that it matches, a writer's by DOWNGRADED too. Assumes nothing.
 use borrow.Author.Needs.{needs}
 use mathlib.Core.Path.{sym}
 use Rattle.release.proofs.after_walk.tail_marked.Statement.{statement}

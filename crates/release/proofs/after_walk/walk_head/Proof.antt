@@ -1,4 +1,4 @@
--- `release::after_walk::walk_head` meets its contract: each answer by the tests that led to it. Assumes nothing.
+-- `release::after_walk::walk_head` meets its contract: no test, what its calls promise put together. Assumes nothing.
 use borrow.Author.Needs.{needs}
 use Rattle.release.proofs.after_walk.walk_head.Statement.{statement}
 use Rattle.release.proofs.after_walk.walk_head.Tie as tie

@@ -1,4 +1,4 @@
--- `release::after_walk::walked` meets its contract: each answer by the tests that led to it. Assumes nothing.
+-- `release::after_walk::walked` meets its contract: each arm by the purpose of the walk that it matches. Assumes nothing.
 use borrow.Author.Needs.{needs}
 use Rattle.release.proofs.after_walk.walked.Statement.{statement}
 use Rattle.release.proofs.after_walk.walked.Tie as tie

@@ -1,4 +1,4 @@
--- `release::read_unlock::read_unlock_cas` meets its contract: each answer by the tests that led to it. Assumes nothing.
+-- `release::read_unlock::read_unlock_cas` meets its contract: an agreeing compare by read_unlock's answer on the word seen, another by the word reported. Assumes nothing.
 use borrow.Author.Needs.{needs}
 use mathlib.Core.Path.{sym}
 use Rattle.release.proofs.read_unlock.read_unlock_cas.Statement.{statement}

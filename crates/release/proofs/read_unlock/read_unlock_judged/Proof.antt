@@ -1,4 +1,4 @@
--- `release::read_unlock::read_unlock_judged` meets its contract: each answer by the tests that led to it. Assumes nothing.
+-- `release::read_unlock::read_unlock_judged` meets its contract: each arm by the answer of read_unlock that it matches. Assumes nothing.
 use borrow.Author.Needs.{needs}
 use mathlib.Core.Path.{sym}
 use Rattle.release.proofs.read_unlock.read_unlock_judged.Statement.{statement}

@@ -1,4 +1,4 @@
--- `release::read_unlock::subtract` meets its contract: each answer by the tests that led to it. Assumes nothing.
+-- `release::read_unlock::subtract` meets its contract: each answer by the test of the raw next against 16. Assumes nothing.
 use borrow.Author.Needs.{needs}
 use borrow.Author.Tests.{lt-ltb, le-ltb}
 use Rattle.release.proofs.read_unlock.subtract.Statement.{statement}

@@ -1,4 +1,4 @@
--- `release::unlock_contended::release_cas` meets its contract: each answer by the tests that led to it. Assumes nothing.
+-- `release::unlock_contended::release_cas` meets its contract: the walk starts from the word written, and a failed compare is made again on the word reported. Assumes nothing.
 use borrow.Author.Needs.{needs}
 use mathlib.Core.Path.{sym}
 use Rattle.release.proofs.unlock_contended.release_cas.Statement.{statement}

@@ -1,4 +1,4 @@
--- `release::unlock_queue::split_restore` meets its contract: each answer by the tests that led to it. Assumes nothing.
+-- `release::unlock_queue::split_restore` meets its contract: no test, the tail goes back into the node, and the walk starts from the word reported. Assumes nothing.
 use borrow.Author.Needs.{needs}
 use Rattle.release.proofs.unlock_queue.split_restore.Statement.{statement}
 use Rattle.release.proofs.unlock_queue.split_restore.Tie as tie

@@ -1,4 +1,4 @@
--- `release::unlock_queue::split_store` meets its contract: each answer by the tests that led to it. Assumes nothing.
+-- `release::unlock_queue::split_store` meets its contract: no test, what its calls promise put together. Assumes nothing.
 use borrow.Author.Needs.{needs}
 use Rattle.release.proofs.unlock_queue.split_store.Statement.{statement}
 use Rattle.release.proofs.unlock_queue.split_store.Tie as tie

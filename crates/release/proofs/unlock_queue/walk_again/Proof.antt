@@ -1,4 +1,4 @@
--- `release::unlock_queue::walk_again` meets its contract: each answer by the tests that led to it. Assumes nothing.
+-- `release::unlock_queue::walk_again` meets its contract: no test, what its calls promise put together. Assumes nothing.
 use borrow.Author.Needs.{needs}
 use Rattle.release.proofs.unlock_queue.walk_again.Statement.{statement}
 use Rattle.release.proofs.unlock_queue.walk_again.Tie as tie

@@ -1,4 +1,4 @@
--- `state::machine::made` meets its contract: each answer by the tests that led to it. Assumes nothing.
+-- `state::machine::made` meets its contract: no test, both arrays repeat the blank that its call promises. Assumes nothing.
 use borrow.Author.Needs.{needs}
 use Rattle.state.proofs.machine.made.Statement.{statement}
 use Rattle.state.proofs.machine.made.Tie as tie

@@ -1,4 +1,4 @@
--- `walk::complete_all::wake_store` meets its contract: each answer by the tests that led to it. Assumes nothing.
+-- `walk::complete_all::wake_store` meets its contract: the node and its owner are the same on both ways, and the test of prev says where it goes on. Assumes nothing.
 use borrow.Author.Needs.{needs}
 use mathlib.Core.Path.{sym}
 use Rattle.walk.proofs.complete_all.wake_store.Statement.{statement}

@@ -1,4 +1,4 @@
--- `state::machine::Machine::fresh` meets its contract: each answer by the tests that led to it. Assumes nothing.
+-- `state::machine::Machine::fresh` meets its contract: a machine of the count asked for where good_count holds, else of one thread, with the refusal. Assumes nothing.
 use borrow.Author.Needs.{needs}
 use mathlib.Core.Path.{sym}
 use Rattle.state.proofs.machine.Machine.fresh.Statement.{statement}

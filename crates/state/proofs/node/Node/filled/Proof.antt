@@ -1,4 +1,4 @@
--- `state::node::Node::filled` meets its contract: each answer by the tests that led to it. Assumes nothing.
+-- `state::node::Node::filled` meets its contract: the test of QUEUED decides about the tail alone. Assumes nothing.
 use borrow.Author.Needs.{needs}
 use mathlib.Core.Path.{sym}
 use Rattle.state.proofs.node.Node.filled.Statement.{statement}
