@@ -1,3 +1,4 @@
 pub mod Listing
 pub mod Way
+pub mod ReaderCount
 pub mod Laws

@@ -45,7 +45,7 @@ fn within(count: u8, n: NodeNumber) -> bool
     n.0 <= count as u64
 }
 
-fn node_by(m: Machine, n: NodeNumber) -> Node
+pub(crate) fn node_by(m: Machine, n: NodeNumber) -> Node
     requires { ⌜ (m .count ≤ threadLimit) × (within (m .count) n ≡ true) ⌝ }
     ensures { λ r. ⌜ r ≡ nodeBy m n ⌝ }
 {
