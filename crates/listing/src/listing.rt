@@ -20,12 +20,13 @@ pub struct Waiters {
     pub verdict: Verdict,
 }
 
-// What following next comes to.
+// What following next comes to: the tail that is set in a node, or a link out of range or past the last visit.
 enum Found {
     Tail(NodeNumber),
     Refused,
 }
 
+// No waiters.
 fn empty(verdict: Verdict) -> Waiters
     ensures { λ r. ⌜ r ≡ emptyOf verdict ⌝ }
 {
@@ -36,6 +37,7 @@ fn empty(verdict: Verdict) -> Waiters
     }
 }
 
+// Is it a node of a machine of so many threads?
 fn within(count: u8, n: NodeNumber) -> bool
     ensures { λ r. ⌜ r ≡ within count n ⌝ }
 {
@@ -45,6 +47,7 @@ fn within(count: u8, n: NodeNumber) -> bool
     n.0 <= count as u64
 }
 
+// The node of a number that is within.
 pub(crate) fn node_by(m: Machine, n: NodeNumber) -> Node
     requires { ⌜ (m .count ≤ threadLimit) × (within (m .count) n ≡ true) ⌝ }
     ensures { λ r. ⌜ r ≡ nodeBy m n ⌝ }
@@ -53,20 +56,20 @@ pub(crate) fn node_by(m: Machine, n: NodeNumber) -> Node
     m.nodes[k]
 }
 
-// Goes on from `from`, the last node listed, until it stands on the tail.
+// Goes on by next from `from`, which is listed already, until it stands on the tail.
 fn to_tail(
     m: Machine,
     tail: NodeNumber,
     from: NodeNumber,
-    before: [NodeNumber; THREADS],
+    stood: [NodeNumber; THREADS],
     visits: usize,
 ) -> Waiters
-    requires { ⌜ Way m before visits × (within (m .count) from ≡ true) ⌝ }
-    ensures { λ r. ⌜ r ≡ joined before visits (toTail (m .count - visits) m tail from) ⌝ }
+    requires { ⌜ Way m stood visits × (within (m .count) from ≡ true) ⌝ }
+    ensures { λ r. ⌜ r ≡ joined stood visits (toTail (m .count - visits) m tail from) ⌝ }
 {
     let count = m.count as usize;
     let mut at = from;
-    let mut nodes = before;
+    let mut nodes = stood;
     let mut length = visits;
     while at.0 != tail.0 {
         at = node_by(m, at).next.to_node();
@@ -86,23 +89,24 @@ fn to_tail(
     }
 }
 
+// Follows next from the newest waiter to a node whose tail is set, and goes on from there.
 fn follow(m: Machine) -> Waiters
     requires { ⌜ m .count ≤ threadLimit ⌝ }
     ensures { λ r. ⌜ r ≡ waitersBy (followedOf m) ⌝ }
 {
     let count = m.count as usize;
     let mut at = m.word.to_node();
-    let mut nodes = [NodeNumber::NONE; THREADS];
-    let mut length: usize = 0;
+    let mut stood = [NodeNumber::NONE; THREADS];
+    let mut visits: usize = 0;
     let found = loop {
-        if count <= length {
+        if count <= visits {
             break Found::Refused;
         }
         if !within(m.count, at) {
             break Found::Refused;
         }
-        nodes[length] = at;
-        length = length + 1;
+        stood[visits] = at;
+        visits = visits + 1;
         let n = node_by(m, at);
         let tail = n.tail;
         if !tail.is_none() {
@@ -111,11 +115,13 @@ fn follow(m: Machine) -> Waiters
         at = n.next.to_node();
     };
     match found {
-        Found::Tail(tail) => to_tail(m, tail, at, nodes, length),
+        Found::Tail(tail) => to_tail(m, tail, at, stood, visits),
         Found::Refused => empty(Verdict::Refused(Refusal::Damaged)),
     }
 }
 
+// The waiters, newest first: none if unqueued; refused on a bad thread count, which is tested first, on a node out of
+// range, and on more visits than the count.
 pub fn listing(m: Machine) -> Waiters
     ensures { λ r. ⌜ r ≡ waitersOf m ⌝ }
 {

@@ -4,7 +4,7 @@ ghost use mathlib.Core.Path.{_≡_};
 ghost use Prim.Native.Nat.{_≤_};
 ghost use Rattle.word.specs.Flags.{queued};
 ghost use Rattle.state.specs.Machine.{goodCount, threadLimit};
-ghost use Rattle.listing.specs.ReaderCount.{readsBelow, tracedOf, refusedOf, inOldestOf, heldOf, readersOf};
+ghost use Rattle.listing.specs.ReaderCount.{readsBelow, reportOf, refusedOf, inOldestOf, heldOf, readersOf};
 use crate::listing::listing;
 use crate::listing::node_by;
 use state::Machine;
@@ -31,6 +31,7 @@ pub struct Readers {
     pub verdict: Verdict,
 }
 
+// How many of the machine's threads hold read.
 fn reads_below(m: Machine) -> u64
     requires { ⌜ m .count ≤ threadLimit ⌝ }
     ensures { λ r. ⌜ r ≡ readsBelow (m .count) m ⌝ }
@@ -47,8 +48,9 @@ fn reads_below(m: Machine) -> u64
     readers
 }
 
-fn traced(readers: u64, sits: Sits, raw: u64, due: u64) -> Readers
-    ensures { λ r. ⌜ r ≡ tracedOf readers sits raw due ⌝ }
+// What is found, and whether it is the number that is due.
+fn report(readers: u64, sits: Sits, raw: u64, due: u64) -> Readers
+    ensures { λ r. ⌜ r ≡ reportOf readers sits raw due ⌝ }
 {
     Readers {
         readers: readers,
@@ -71,6 +73,7 @@ fn refused() -> Readers
     }
 }
 
+// Queued, and no downgrade is pending: the number is the oldest waiter's next.
 fn in_oldest(m: Machine, readers: u64) -> Readers
     requires { ⌜ (goodCount (m .count) ≡ true) × (queued (m .word) ≡ true) × (readers ≤ threadLimit) ⌝ }
     ensures { λ r. ⌜ r ≡ inOldestOf m readers ⌝ }
@@ -83,25 +86,26 @@ fn in_oldest(m: Machine, readers: u64) -> Readers
             let last = waiters.length - 1;
             let oldest = waiters.nodes[last];
             let raw = node_by(m, oldest).next.0;
-            traced(readers, Sits::Node(oldest), raw, Word::SINGLE * readers)
+            report(readers, Sits::Node(oldest), raw, Word::SINGLE * readers)
         }
     }
 }
 
+// Where the number of `readers` sits; where nobody reads it sits nowhere, whatever a next holds.
 fn held(m: Machine, readers: u64) -> Readers
     requires { ⌜ (goodCount (m .count) ≡ true) × (readers ≤ threadLimit) ⌝ }
     ensures { λ r. ⌜ r ≡ heldOf m readers ⌝ }
 {
     if readers == 0 {
-        return traced(0, Sits::Nowhere, 0, 0);
+        return report(0, Sits::Nowhere, 0, 0);
     }
     if m.word.queued() {
         if m.word.downgraded() {
-            return traced(readers, Sits::Downgrade, 1, readers);
+            return report(readers, Sits::Downgrade, 1, readers);
         }
         return in_oldest(m, readers);
     }
-    traced(
+    report(
         readers,
         Sits::Word,
         m.word.0,
@@ -109,6 +113,8 @@ fn held(m: Machine, readers: u64) -> Readers
     )
 }
 
+// The readers of a machine, traced. Refused on a bad thread count, which is tested first, and where the listing is needed
+// and refused.
 pub fn reader_count(m: Machine) -> Readers
     ensures { λ r. ⌜ r ≡ readersOf m ⌝ }
 {

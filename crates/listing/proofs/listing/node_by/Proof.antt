@@ -1,6 +1,6 @@
--- `listing::listing::node_by` meets its contract: each answer by the tests that led to it. Assumes nothing.
-use borrow.Author.Needs.{needs}
+-- `listing::listing::node_by` meets its contract: the index is below the array's length, since the node is within. Assumes nothing.
 use native.Mathlib.Omega.{arith}
+use borrow.Author.Needs.{needs}
 use Rattle.listing.specs.Laws.{in-range}
 use Rattle.listing.proofs.listing.node_by.Statement.{statement}
 use Rattle.listing.proofs.listing.node_by.Tie as tie

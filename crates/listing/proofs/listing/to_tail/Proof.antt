@@ -1,13 +1,14 @@
--- `listing::listing::to_tail` meets its contract: each answer by the tests that led to it. Assumes nothing.
-use native.Mathlib.Omega.{arith}
+-- `listing::listing::to_tail` meets its contract. The loop's invariant: what is listed and what is still to come make what the walk makes
+-- from its start. Assumes nothing.
 use Prim.Native.Nat.{_-_}
 use mathlib.Core.Bool.{true}
 use mathlib.Core.Path.{_≡_, refl, sym, ap, _∙_}
+use native.Mathlib.Omega.{arith}
 use borrow.Author.Needs.{needs}
 use borrow.Author.Tests.{not-true, not-false}
+use Rattle.word.specs.Flags.{toNode}
 use Rattle.listing.specs.Listing.{within, toTail}
 use Rattle.listing.specs.Way.{Way, joined}
-use Rattle.word.specs.Flags.{toNode}
 use Rattle.listing.proofs.Turn.{on, tail-met, tail-spent, tail-lost, tail-on}
 use Rattle.listing.proofs.listing.to_tail.Statement.{statement}
 use Rattle.listing.proofs.listing.to_tail.Tie as tie
@@ -39,8 +40,9 @@ empty-requires c κs = search needs
 returns : tie.Need-returns Inv-loop μ-loop
 returns c =
     let l = c .before .before .before .before .before .before .before .loop in
-    let a = c .before .before .before .before .before .before .before .before .before .args in
-    c .empty .ensures ∙ tail-spent (a .m) (l .nodes) (l .length) (l .inv .0) (a .tail) (l .at) (c .before .before .before .before .if1 .taken) (c .before .if2 .taken) ∙ l .inv .2
+    let tail = c .before .before .before .before .before .before .before .before .before .args .tail in
+    let other = c .before .before .before .before .if1 .taken in
+    c .empty .ensures ∙ tail-spent (l .inv .0) tail (l .at) other (omega arith) ∙ l .inv .2
 
 within-requires : tie.Need-within-requires Inv-loop μ-loop
 within-requires c κs = search needs
@@ -51,9 +53,11 @@ empty-requires-2 c κs = search needs
 returns-2 : tie.Need-returns-2 Inv-loop μ-loop
 returns-2 c =
     let l = c .before .before .before .before .before .before .before .before .before .loop in
-    let a = c .before .before .before .before .before .before .before .before .before .before .before .args in
+    let tail = c .before .before .before .before .before .before .before .before .before .before .before .args .tail in
+    let other = c .before .before .before .before .before .before .if1 .taken in
     let next = c .before .before .before .before .to-node .ensures ∙ ap (λ n. toNode (n .next)) (c .before .before .before .before .before .node-by .ensures) in
-    c .empty2 .ensures ∙ tail-lost (a .m) (l .nodes) (l .length) (l .inv .0) (a .tail) (l .at) (c .before .before .before .before .before .before .if1 .taken) (rw next at (sym (c .before .before .within .ensures) ∙ not-true _ (c .before .if3 .taken))) ∙ l .inv .2
+    let out = sym (c .before .before .within .ensures) ∙ not-true _ (c .before .if3 .taken) in
+    c .empty2 .ensures ∙ tail-lost (l .inv .0) tail (l .at) other (rw next at out) ∙ l .inv .2
 
 mul-nodes : tie.Need-mul-nodes Inv-loop μ-loop
 mul-nodes c = omega arith
@@ -70,16 +74,21 @@ loop-less c = omega arith
 loop-again : tie.Need-loop-again Inv-loop μ-loop
 loop-again c =
     let l = c .before .before .before .before .before .before .before .before .loop in
-    let a = c .before .before .before .before .before .before .before .before .before .before .args in
+    let tail = c .before .before .before .before .before .before .before .before .before .before .args .tail in
+    let other = c .before .before .before .before .before .if1 .taken in
+    let node = c .before .before .before .to-node .result in
     let next = c .before .before .before .to-node .ensures ∙ ap (λ n. toNode (n .next)) (c .before .before .before .before .node-by .ensures) in
-    let in-range = sym (c .before .within .ensures) ∙ not-false _ (c .if3 .left) in
-    (on (a .m) (l .nodes) (l .length) (l .inv .0) (c .before .before .before .to-node .result) (c .before .before .if2 .left), in-range, rw next (tail-on (a .m) (l .nodes) (l .length) (l .inv .0) (a .tail) (l .at) (c .before .before .before .before .before .if1 .taken) (c .before .before .if2 .left) (rw next at in-range)) ∙ l .inv .2)
+    let in-range = sym (c .before .within .ensures) ∙ not-false _ (c .if3 .left) in (
+      on (l .inv .0) node (omega arith),
+      in-range,
+      tail-on (l .inv .0) tail (l .at) other node next (omega arith) in-range ∙ l .inv .2,
+    )
 
 returns-3 : tie.Need-returns-3 Inv-loop μ-loop
 returns-3 c =
     let l = c .before .before .before .loop in
-    let a = c .before .before .before .before .before .args in
-    tail-met (a .m) (l .nodes) (l .length) (l .inv .0) (a .tail) (l .at) (c .if1 .left) ∙ l .inv .2
+    let tail = c .before .before .before .before .before .args .tail in
+    tail-met (l .inv .0) tail (l .at) (c .if1 .left) ∙ l .inv .2
 
 pub to-tail-spec : {M : Type 1} → statement M
 to-tail-spec =

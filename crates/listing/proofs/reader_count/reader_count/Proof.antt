@@ -1,7 +1,8 @@
 -- `listing::reader_count::reader_count` meets its contract: each answer by the tests that led to it. Assumes nothing.
-use borrow.Author.Needs.{needs}
-use native.Mathlib.Omega.{arith}
 use mathlib.Core.Path.{sym, _∙_}
+use native.Mathlib.Omega.{arith}
+use borrow.Author.Needs.{needs}
+use Rattle.word.specs.Cases.{cases}
 use Rattle.state.specs.Machine.{threadLimit}
 use Rattle.listing.specs.Laws.{in-range, reads-most}
 use Rattle.listing.proofs.reader_count.reader_count.Statement.{statement}
@@ -20,13 +21,15 @@ held-requires c κs =
     (good, omega (arith, c .reads-below .ensures, reads-most (m .count) m, in-range (m .count) threadLimit good))
 
 returns : tie.Need-returns
-returns c = let good = c .before .before .if1 .taken in simp (c .held .ensures, c .before .reads-below .ensures, sym (c .before .before .before .good-count .ensures), good)
+returns c =
+    let good = c .before .before .if1 .taken in
+    simp (c .held .ensures, c .before .reads-below .ensures, sym (c .before .before .before .good-count .ensures), good)
 
 refused-requires : tie.Need-refused-requires
 refused-requires c κs = search needs
 
 returns-2 : tie.Need-returns-2
-returns-2 c = let bad = c .before .if1 .left in simp (c .refused .ensures, sym (c .before .before .good-count .ensures), bad)
+returns-2 c = search cases
 
 pub reader-count-spec : {M : Type 1} → statement M
 reader-count-spec =

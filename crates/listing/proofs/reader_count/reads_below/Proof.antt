@@ -1,7 +1,7 @@
--- `listing::reader_count::reads_below` meets its contract: each answer by the tests that led to it. Assumes nothing.
-use native.Mathlib.Omega.{arith}
+-- `listing::reader_count::reads_below` meets its contract: the loop's invariant is the sum over the threads passed. Assumes nothing.
 use Prim.Native.Nat.{_-_, _≤_}
-use mathlib.Core.Path.{_≡_, refl, sym, ap, _∙_}
+use mathlib.Core.Path.{_≡_, refl, ap, _∙_}
+use native.Mathlib.Omega.{arith}
 use borrow.Author.Needs.{needs}
 use Rattle.state.specs.Machine.{threadAt}
 use Rattle.listing.specs.ReaderCount.{readsBelow}
