@@ -1,4 +1,6 @@
 -- What a listing is on any machine, and how many reads threads can have.
+--     waiters-bad-count                8 on a bad thread count
+--     waiters-unqueued                 empty if unqueued
 --     waiters-most, waiters-within     it has at most as many nodes as the count, each in 1..count
 --     waiters-first, waiters-linked    the first is the word's node, each other the one that the next of the node before links to
 --     waiters-some, waiters-met        of a queued word, unless refused: it has a node, and ends on the first tail that it met
@@ -86,7 +88,7 @@ pub record Met (m : Machine) (nodes : List NodeNumber) (most : ℕ) : Type 0 whe
   pub set : isNone (nodeBy m (getD nodes at none) .tail) ≡ false
   pub last : nodeBy m (getD nodes at none) .tail ≡ getD nodes (most - 1) none
 
--- what holds of a listing's nodes, unless it is lost
+-- it holds of a listing's nodes, unless the listing is lost
 abbrev Holds : (List NodeNumber → Type 0) → Listed → Type 0
 Holds P lost = Unit
 Holds P (listed ns) = P ns
@@ -115,6 +117,7 @@ tail-trail (suc left) m tail at =
     (λ _. end)
     (λ _. stood (Trail m left (linkOf m next)) (Trail m (suc left) next) m next (λ inside ns. step inside) rest (tail-trail left m tail next))
 
+-- the nodes after `at` end on the tail
 abbrev Onto : NodeNumber → NodeNumber → List NodeNumber → Type 0
 Onto tail at ns = getD (at ∷ ns) (length ns) none ≡ tail
 
@@ -129,10 +132,9 @@ tail-onto (suc left) m tail at =
     (λ e. ap node (eqb-true (at .0) (tail .0) e))
     (λ _. stood (Onto tail next) (Onto tail at) m next (λ _ ns h. h) rest (tail-onto left m tail next))
 
--- following next: a trail from the node that it starts from, met by a tail
-module _ (left : ℕ) (m : Machine) (at : NodeNumber) where
-  abbrev onward : Listed
-  onward = pick (isNone (nodeBy m at .tail)) (toSet left m (linkOf m at)) (toTail left m (nodeBy m at .tail) at)
+-- following next: a trail from the node that it starts from, that ends on the first tail met
+abbrev onward : ℕ → Machine → NodeNumber → Listed
+onward left m at = pick (isNone (nodeBy m at .tail)) (toSet left m (linkOf m at)) (toTail left m (nodeBy m at .tail) at)
 
 set-trail : (left : ℕ) (m : Machine) (at : NodeNumber) → Holds (Trail m left at) (toSet left m at)
 unfolding toSet
@@ -150,10 +152,10 @@ MetIn m ns = Met m ns (length ns)
 
 met-later : (m : Machine) (at : NodeNumber) (ns : List NodeNumber) → isNone (nodeBy m at .tail) ≡ true → MetIn m ns → MetIn m (at ∷ ns)
 met-later m at ns none-set later =
-    let shifted : suc (length ns - 1) ≡ suc (length ns) - 1 = omega (arith, later .below) in
+    let shifted : suc (length ns - 1) ≡ suc (length ns) - 1 = omega arith in
     record {
       at = suc (later .at);
-      below = omega (arith, later .below);
+      below = omega arith;
       before = before;
       set = later .set;
       last = later .last ∙ ap (λ k. getD (at ∷ ns) k none) shifted;
@@ -210,9 +212,9 @@ met-padded m ns met =
     record {
       at = met .at;
       below = met .below;
-      before = λ k b. rw (kept-at ns k (omega (arith, met .below))) (met .before k b);
+      before = λ k b. rw (kept-at ns k (omega arith)) (met .before k b);
       set = rw (kept-at ns (met .at) (met .below)) (met .set);
-      last = rw (kept-at ns (met .at) (met .below), kept-at ns (length ns - 1) (omega (arith, met .below))) (met .last);
+      last = rw (kept-at ns (met .at) (met .below), kept-at ns (length ns - 1) (omega arith)) (met .last);
     }
 
 module _ (m : Machine) where
@@ -242,21 +244,33 @@ module _ (m : Machine) where
       cases lost t = gone
       cases (listed ns) t = kept ns t
 
+  -- 8 on a bad thread count, whatever the word
+  pub waiters-bad-count : goodCount (m .count) ≡ false → waitersOf m ≡ emptyOf (Refused Damaged)
+  waiters-bad-count bad = simp bad
+
+  -- empty if unqueued
+  pub waiters-unqueued : goodCount (m .count) ≡ true → queued (m .word) ≡ false → waitersOf m ≡ emptyOf Fine
+  waiters-unqueued good unqueued = simp (good, unqueued)
+
+  -- a listing has at most as many nodes as the count
   pub waiters-most : waitersOf m .length ≤ m .count
   waiters-most = waiters-cases (λ w. w .length ≤ m .count) (omega arith) (λ ns t. trail-most t)
 
+  -- each in 1..count
   pub waiters-within : (k : ℕ) → k < waitersOf m .length → within (m .count) (getD (waitersOf m .nodes) k none) ≡ true
   waiters-within k =
       waiters-cases (λ w. k < w .length → within (m .count) (getD (w .nodes) k none) ≡ true)
       (λ b. absurd (omega arith))
       (λ ns t b. rw (kept-at ns k b) (trail-within t k b))
 
+  -- the first is the newest waiter, which the word names
   pub waiters-first : 1 ≤ waitersOf m .length → getD (waitersOf m .nodes) 0 none ≡ toNode (m .word)
   waiters-first =
       waiters-cases (λ w. 1 ≤ w .length → getD (w .nodes) 0 none ≡ toNode (m .word))
       (λ b. absurd (omega arith))
       (λ ns t b. kept-at ns 0 b ∙ trail-first t b)
 
+  -- each other is the node that the next of the one before links to
   pub waiters-linked : (k : ℕ)
       → suc k < waitersOf m .length
       → getD (waitersOf m .nodes) (suc k) none ≡ linkOf m (getD (waitersOf m .nodes) k none)
@@ -265,6 +279,7 @@ module _ (m : Machine) where
       (λ b. absurd (omega arith))
       (λ ns t b. kept-at ns (suc k) b ∙ trail-linked t k b ∙ ap (linkOf m) (sym (kept-at ns k (omega arith))))
 
+  -- of a queued word, unless refused, it ends on the first tail that it met
   pub waiters-met : queued (m .word) ≡ true → waitersOf m .verdict ≡ Fine → Met m (waitersOf m .nodes) (waitersOf m .length)
   waiters-met queue = cases (listedOf m) (listed-met queue)
     where
@@ -272,13 +287,16 @@ module _ (m : Machine) where
       cases lost met fine = let bad : _≡_ {A = ℕ} 0 1 = cc in absurd (omega arith)
       cases (listed ns) met fine = met-padded m ns met
 
+  -- and so has a node
   pub waiters-some : queued (m .word) ≡ true → waitersOf m .verdict ≡ Fine → 1 ≤ waitersOf m .length
   waiters-some queue fine = omega (arith, waiters-met queue fine .below)
 
+  -- refused, it is 8, with no nodes
   pub waiters-refused : (r : Refusal) → waitersOf m .verdict ≡ Refused r → waitersOf m ≡ emptyOf (Refused Damaged)
   waiters-refused r =
       waiters-cases (λ w. w .verdict ≡ Refused r → w ≡ emptyOf (Refused Damaged)) (λ _. refl) (λ ns t e. cc)
 
+  -- past its length its array has no node
   pub waiters-others : (k : ℕ) → waitersOf m .length ≤ k → getD (waitersOf m .nodes) k none ≡ none
   waiters-others k =
       waiters-cases (λ w. w .length ≤ k → getD (w .nodes) k none ≡ none) (none-at [] k) (λ ns t. none-at ns k)

@@ -1,6 +1,6 @@
 -- `listing::reader_count::in_oldest` meets its contract: a listing that is not refused has a last node, which is within, by the laws of
 -- listings. Assumes nothing.
-use Prim.Native.Nat.{ℕ, _-_, _≤_}
+use Prim.Native.Nat.{ℕ, _-_, _≤_, _<_}
 use mathlib.Core.Bool.{true}
 use mathlib.Core.Path.{_≡_, refl, sym, ap, _∙_}
 use native.Mathlib.Omega.{arith}
@@ -28,7 +28,7 @@ record Last (m : Machine) (w : Waiters) : Type 0 where
   count : m .count ≤ threadLimit
   some : 1 ≤ w .length
   most : w .length ≤ m .count
-  inside : within (m .count) (last w) ≡ true
+  inside : (k : ℕ) → k < w .length → within (m .count) (getD (w .nodes) k none) ≡ true
   next : (r : ℕ) → tracedOf m r (InNode (last w)) ≡ inOldestOf m r
 
 fine-by : (m : Machine) (r : ℕ) (l : Listed)
@@ -53,7 +53,7 @@ has-last m good queue fine =
       count = in-range (m .count) threadLimit good .1;
       some = some;
       most = waiters-most m;
-      inside = waiters-within m (waitersOf m .length - 1) (omega arith);
+      inside = waiters-within m;
       next = λ r. fine-by m r (listedOf m) fine some;
     }
 
@@ -76,7 +76,7 @@ enum-told-2 : tie.Need-enum-told-2
 enum-told-2 c = search needs
 
 sub-last : tie.Need-sub-last
-sub-last c = known c .some
+sub-last c = omega (arith, known c)
 
 mul-oldest : tie.Need-mul-oldest
 mul-oldest c = omega (arith, known c)
@@ -85,7 +85,7 @@ element-copy-out-oldest : tie.Need-element-copy-out-oldest
 element-copy-out-oldest c = omega (arith, known c)
 
 node-by-requires : tie.Need-node-by-requires
-node-by-requires c κs = (known (c .before) .count, known (c .before) .inside)
+node-by-requires c κs = (known (c .before) .count, known (c .before) .inside _ (omega (arith, known (c .before))))
 
 mul-report : tie.Need-mul-report
 mul-report c = search needs
