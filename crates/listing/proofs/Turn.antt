@@ -21,7 +21,7 @@ use Rattle.state.specs.Machine.{threadLimit}
 use Rattle.state.specs.declared.machine.Machine.{Machine}
 use Rattle.state.specs.declared.answer.Refusal.the-variants.{Damaged}
 use Rattle.state.specs.declared.answer.Verdict.the-variants.{Fine, Refused}
-use Rattle.listing.specs.Listing.{Listed, lost, listed, prepend, within, nodeBy, linkOf, stand, toTail, toSet, padded, emptyOf, waitersBy}
+use Rattle.listing.specs.Listing.{Listed, lost, listed, prepend, within, nodeBy, linkOf, toTail, toSet, padded, emptyOf, waitersBy}
 use Rattle.listing.specs.Way.{Way, prependAll, joined}
 
 prepend-lost : (ns : List NodeNumber) → prependAll ns lost ≡ lost

@@ -1,7 +1,7 @@
 -- Listings and reader counts of written machines: document 01's, and damaged ones, on both sides of an edge. Assumes nothing.
 use Prim.Native.Nat.{ℕ, _+_}
 use mathlib.Core.Bool.{Bool, true, false}
-use mathlib.Core.List.{List, [], _∷_}
+use mathlib.Core.List.{[], _∷_}
 use mathlib.Core.Path.{_≡_, refl}
 use Rattle.word.specs.Number.{node, none}
 use Rattle.word.specs.Flags.{word, DOWNGRADED}
