@@ -1,0 +1,6 @@
+pub mod Listing
+pub mod Way
+pub mod ReaderCount
+pub mod Laws
+pub mod Examples
+pub mod Determined
