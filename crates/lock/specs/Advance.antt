@@ -11,8 +11,8 @@ use Rattle.acquire.specs.TryRead.{tryReadLoadOf, tryReadCasOf}
 use Rattle.acquire.specs.TryWrite.{tryWriteOrOf}
 use Rattle.acquire.specs.LockContended.{contendLoadOf, contendCasOf, registerCasOf}
 use Rattle.acquire.specs.Wait.{completedLoadOf, parkOf}
-use Rattle.release.specs.AfterWalk.{walkHeadOf}
-use Rattle.release.specs.UnlockQueue.{queueCasOf, splitPrevOf, splitStoreOf, splitCasOf, splitRestoreOf, takeCasOf}
+use Rattle.unlock.specs.AfterWalk.{walkHeadOf}
+use Rattle.unlock.specs.UnlockQueue.{queueCasOf, splitPrevOf, splitStoreOf, splitCasOf, splitRestoreOf, takeCasOf}
 use Rattle.release.specs.ReadUnlock.{readUnlockLoadOf, readUnlockCasOf, subtractOf}
 use Rattle.release.specs.WriteUnlock.{writeUnlockCasOf}
 use Rattle.release.specs.UnlockContended.{releaseCasOf}

@@ -56,8 +56,8 @@ use Rattle.acquire.specs.LockContended.{permittedOf, grantedOf, fillOf, reloadO
 use Rattle.acquire.specs.declared.lock_contended.Permitted.{Permitted}
 use Rattle.acquire.specs.declared.lock_contended.Permitted.the-variants.{To as PermitTo, Refused as PermitRefused}
 use Rattle.acquire.specs.Wait.{completedLoadOf, parkOf}
-use Rattle.release.specs.AfterWalk.{markedBy, tailMarked, tailFound, walkedOf, walkHeadOf}
-use Rattle.release.specs.UnlockQueue.{walkAgain, queueCasOf, splitPrevOf, splitStoreOf, splitCasOf, splitRestoreOf, takeCasOf}
+use Rattle.unlock.specs.AfterWalk.{markedBy, tailMarked, tailFound, walkedOf, walkHeadOf}
+use Rattle.unlock.specs.UnlockQueue.{walkAgain, queueCasOf, splitPrevOf, splitStoreOf, splitCasOf, splitRestoreOf, takeCasOf}
 use Rattle.release.specs.ReadUnlock.{readUnlockBy, readUnlockJudged, readUnlockLoadOf, readUnlockCasBy, readUnlockCasOf, afterSubtract, subtractOf}
 use Rattle.release.specs.WriteUnlock.{writeUnlockCasOf}
 use Rattle.release.specs.UnlockContended.{releasedTo, afterRelease, releaseCasOf}

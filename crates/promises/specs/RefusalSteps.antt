@@ -44,7 +44,7 @@ use Rattle.acquire.specs.LockContended.{contendBy, contendCasBy, permittedOf}
 use Rattle.acquire.specs.TryRead.{tryReadBy, tryReadCasBy}
 use Rattle.acquire.specs.declared.lock_contended.Permitted.{Permitted}
 use Rattle.acquire.specs.declared.lock_contended.Permitted.the-variants.{To as PermittedTo, Refused as NotPermitted}
-use Rattle.release.specs.AfterWalk.{markedBy, walkedOf}
+use Rattle.unlock.specs.AfterWalk.{markedBy, walkedOf}
 use Rattle.release.specs.ReadUnlock.{readUnlockBy, readUnlockCasBy, readUnlockJudged, readUnlockCasOf}
 use Rattle.lock.specs.Advance.{advanceOf}
 use Rattle.lock.specs.Landed.{landedOf}

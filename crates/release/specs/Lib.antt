@@ -1,5 +1,3 @@
-pub mod AfterWalk
-pub mod UnlockQueue
 pub mod ReadUnlock
 pub mod WriteUnlock
 pub mod UnlockContended

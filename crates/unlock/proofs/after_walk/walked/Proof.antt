@@ -1,7 +1,7 @@
--- `release::after_walk::walked` meets its contract: each arm by the purpose of the walk that it matches. Assumes nothing.
+-- `unlock::after_walk::walked` meets its contract: each arm by the purpose of the walk that it matches. Assumes nothing.
 use borrow.Author.Needs.{needs}
-use Rattle.release.proofs.after_walk.walked.Statement.{statement}
-use Rattle.release.proofs.after_walk.walked.Tie as tie
+use Rattle.unlock.proofs.after_walk.walked.Statement.{statement}
+use Rattle.unlock.proofs.after_walk.walked.Tie as tie
 
 enum-known-walk : tie.Need-enum-known-walk
 enum-known-walk c = search needs

@@ -1,7 +1,7 @@
--- `release::unlock_queue::walk_again` meets its contract: no test, what its calls promise put together. Assumes nothing.
+-- `unlock::unlock_queue::walk_again` meets its contract: no test, what its calls promise put together. Assumes nothing.
 use borrow.Author.Needs.{needs}
-use Rattle.release.proofs.unlock_queue.walk_again.Statement.{statement}
-use Rattle.release.proofs.unlock_queue.walk_again.Tie as tie
+use Rattle.unlock.proofs.unlock_queue.walk_again.Statement.{statement}
+use Rattle.unlock.proofs.unlock_queue.walk_again.Tie as tie
 
 walk-from-requires : tie.Need-walk-from-requires
 walk-from-requires c κs = search needs

@@ -1,7 +1,7 @@
--- `release::after_walk::walk_head` meets its contract: no test, what its calls promise put together. Assumes nothing.
+-- `unlock::after_walk::walk_head` meets its contract: no test, what its calls promise put together. Assumes nothing.
 use borrow.Author.Needs.{needs}
-use Rattle.release.proofs.after_walk.walk_head.Statement.{statement}
-use Rattle.release.proofs.after_walk.walk_head.Tie as tie
+use Rattle.unlock.proofs.after_walk.walk_head.Statement.{statement}
+use Rattle.unlock.proofs.after_walk.walk_head.Tie as tie
 
 with-tail-requires : tie.Need-with-tail-requires
 with-tail-requires c κs = search needs

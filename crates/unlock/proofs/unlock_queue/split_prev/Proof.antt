@@ -1,8 +1,8 @@
--- `release::unlock_queue::split_prev` meets its contract: each answer by the tests that led to it. Assumes nothing.
+-- `unlock::unlock_queue::split_prev` meets its contract: each answer by the tests that led to it. Assumes nothing.
 use borrow.Author.Needs.{needs}
 use mathlib.Core.Path.{sym}
-use Rattle.release.proofs.unlock_queue.split_prev.Statement.{statement}
-use Rattle.release.proofs.unlock_queue.split_prev.Tie as tie
+use Rattle.unlock.proofs.unlock_queue.split_prev.Statement.{statement}
+use Rattle.unlock.proofs.unlock_queue.split_prev.Tie as tie
 
 is-none-requires : tie.Need-is-none-requires
 is-none-requires c κs = search needs

@@ -1,7 +1,7 @@
--- `release::unlock_queue::split_store` meets its contract: no test, what its calls promise put together. Assumes nothing.
+-- `unlock::unlock_queue::split_store` meets its contract: no test, what its calls promise put together. Assumes nothing.
 use borrow.Author.Needs.{needs}
-use Rattle.release.proofs.unlock_queue.split_store.Statement.{statement}
-use Rattle.release.proofs.unlock_queue.split_store.Tie as tie
+use Rattle.unlock.proofs.unlock_queue.split_store.Statement.{statement}
+use Rattle.unlock.proofs.unlock_queue.split_store.Tie as tie
 
 with-tail-requires : tie.Need-with-tail-requires
 with-tail-requires c κs = search needs

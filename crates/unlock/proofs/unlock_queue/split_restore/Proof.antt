@@ -1,7 +1,7 @@
--- `release::unlock_queue::split_restore` meets its contract: no test, the tail goes back into the node, and the walk starts from the word reported. Assumes nothing.
+-- `unlock::unlock_queue::split_restore` meets its contract: no test, the tail goes back into the node, and the walk starts from the word reported. Assumes nothing.
 use borrow.Author.Needs.{needs}
-use Rattle.release.proofs.unlock_queue.split_restore.Statement.{statement}
-use Rattle.release.proofs.unlock_queue.split_restore.Tie as tie
+use Rattle.unlock.proofs.unlock_queue.split_restore.Statement.{statement}
+use Rattle.unlock.proofs.unlock_queue.split_restore.Tie as tie
 
 with-tail-requires : tie.Need-with-tail-requires
 with-tail-requires c κs = search needs

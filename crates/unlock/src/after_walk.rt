@@ -1,7 +1,7 @@
 // The last access of find_tail_and_add_backlinks, the store of the tail in the head, and the caller's local code that
 // follows it in the same step.
 ghost use mathlib.Core.Path.{_≡_};
-ghost use Rattle.release.specs.AfterWalk.{tailMarked, tailFound, walkedOf, walkHeadOf};
+ghost use Rattle.unlock.specs.AfterWalk.{tailMarked, tailFound, walkedOf, walkHeadOf};
 use state::Mark;
 use state::Next;
 use state::Node;

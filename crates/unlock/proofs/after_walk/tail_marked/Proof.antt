@@ -1,8 +1,8 @@
--- `release::after_walk::tail_marked` meets its contract: each arm by the mark that it matches, a writer's by DOWNGRADED too. Assumes nothing.
+-- `unlock::after_walk::tail_marked` meets its contract: each arm by the mark that it matches, a writer's by DOWNGRADED too. Assumes nothing.
 use borrow.Author.Needs.{needs}
 use mathlib.Core.Path.{sym}
-use Rattle.release.proofs.after_walk.tail_marked.Statement.{statement}
-use Rattle.release.proofs.after_walk.tail_marked.Tie as tie
+use Rattle.unlock.proofs.after_walk.tail_marked.Statement.{statement}
+use Rattle.unlock.proofs.after_walk.tail_marked.Tie as tie
 
 enum-told : tie.Need-enum-told
 enum-told c = search needs

@@ -1,8 +1,8 @@
--- `release::after_walk::tail_found` meets its contract: each answer by the tests that led to it. Assumes nothing.
+-- `unlock::after_walk::tail_found` meets its contract: each answer by the tests that led to it. Assumes nothing.
 use borrow.Author.Needs.{needs}
 use mathlib.Core.Path.{sym}
-use Rattle.release.proofs.after_walk.tail_found.Statement.{statement}
-use Rattle.release.proofs.after_walk.tail_found.Tie as tie
+use Rattle.unlock.proofs.after_walk.tail_found.Statement.{statement}
+use Rattle.unlock.proofs.after_walk.tail_found.Tie as tie
 
 locked-requires : tie.Need-locked-requires
 locked-requires c κs = search needs

@@ -1,0 +1,3 @@
+pub mod AfterWalk
+pub mod UnlockQueue
+pub mod Determined
