@@ -2,7 +2,6 @@
 use Prim.Native.Nat.{ℕ}
 use mathlib.Core.Bool.{Bool, true, false}
 use lib.Dec.{ltb, eqb}
-use lib.ListN.{set}
 use Rattle.word.specs.Base.{pick}
 use Rattle.word.specs.declared.number.Owner.the-variants.{Nobody}
 use Rattle.state.specs.Holding.{readsOf, writesOf}
@@ -20,6 +19,7 @@ use Rattle.state.specs.Access.{accessOf}
 use Rattle.state.specs.declared.access.Kind.{Kind}
 use Rattle.state.specs.declared.access.Kind.the-variants.{Nothing, Load, Store, WeakCompare, StrongCompare, FetchOr, Subtract, Complete, Park}
 use Rattle.word.specs.Number.{thread}
+use Rattle.lock.specs.Record.{withThread}
 use Rattle.lock.specs.declared.code.Call.{Call}
 use Rattle.lock.specs.declared.code.Call.the-variants.{Read, Write, TryRead, TryWrite, ReadUnlock, WriteUnlock, Downgrade}
 
@@ -68,12 +68,7 @@ placedOf t p = record { place = p; token = t .token; holding = t .holding }
 abbrev pub beganOf : Machine → ℕ → Call → Outcome
 beganOf m i call =
     record {
-      machine = record {
-        count = m .count;
-        word = m .word;
-        nodes = m .nodes;
-        threads = set (m .threads) i (placedOf (threadAt m i) (firstPlace call));
-      };
+      machine = withThread m i (placedOf (threadAt m i) (firstPlace call));
       reply = Accepted Begun Nobody;
     }
 

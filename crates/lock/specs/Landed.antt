@@ -12,6 +12,7 @@ use Rattle.state.specs.declared.answer.Reply.the-variants.{Accepted}
 use Rattle.state.specs.declared.machine.Machine.{Machine}
 use Rattle.state.specs.declared.machine.Thread.{Thread}
 use Rattle.state.specs.declared.machine.Outcome.{Outcome}
+use Rattle.lock.specs.Record.{withThread}
 use Rattle.state.specs.declared.view.Change.{Change}
 use Rattle.state.specs.declared.view.Stepped.{Stepped}
 use Rattle.state.specs.declared.view.Stepped.the-variants.{To, Refused}
@@ -23,12 +24,7 @@ tokenedOf t = record { place = t .place; token = true; holding = t .holding }
 abbrev pub tokenSet : Machine → ThreadNumber → Machine
 tokenSet m t =
     pick (ltb (t .0) threadLimit)
-    (record {
-      count = m .count;
-      word = m .word;
-      nodes = m .nodes;
-      threads = set (m .threads) (t .0) (tokenedOf (threadAt m (t .0)));
-    })
+    (withThread m (t .0) (tokenedOf (threadAt m (t .0))))
     m
 
 abbrev pub wokenOf : Machine → Owner → Machine

@@ -1,3 +1,4 @@
+pub mod Record
 pub mod Code
 pub mod Begin
 pub mod Advance

@@ -4,6 +4,8 @@ ghost use Prim.Native.Nat.{_<_};
 ghost use Rattle.state.specs.Machine.{threadLimit};
 ghost use Rattle.lock.specs.Begin.{firstPlace, holdsNothing, mayBegin, isIdle, placedOf, beginOf, beganOf};
 use crate::code::Call;
+use crate::record::thread_at;
+use crate::record::with_thread;
 use state::Access;
 use state::Answer;
 use state::Holding;
@@ -71,18 +73,9 @@ fn began(m: Machine, i: usize, call: Call) -> Outcome
     requires { ⌜ i < threadLimit ⌝ }
     ensures { λ r. ⌜ r ≡ beganOf m i call ⌝ }
 {
-    let t = m.threads[i];
-    let w = m.word;
-    let nodes = m.nodes;
-    let mut threads = m.threads;
-    threads[i] = placed(t, first_place(call));
+    let t = placed(thread_at(m, i), first_place(call));
     Outcome {
-        machine: Machine {
-            count: m.count,
-            word: w,
-            nodes: nodes,
-            threads: threads,
-        },
+        machine: with_thread(m, i, t),
         reply: Reply::Accepted {
             answer: Answer::Begun,
             woken: Owner::Nobody,
@@ -112,7 +105,7 @@ pub(crate) fn begin(m: Machine, i: usize, call: Call) -> Outcome
     requires { ⌜ i < threadLimit ⌝ }
     ensures { λ r. ⌜ r ≡ beginOf m i call ⌝ }
 {
-    let t = m.threads[i];
+    let t = thread_at(m, i);
     let place = t.place;
     let holding = t.holding;
     if is_idle(place) {

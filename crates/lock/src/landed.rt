@@ -4,6 +4,9 @@ ghost use mathlib.Core.Path.{_≡_};
 ghost use Prim.Native.Nat.{_<_};
 ghost use Rattle.state.specs.Machine.{threadLimit};
 ghost use Rattle.lock.specs.Landed.{tokenedOf, wokenOf, storedOf, appliedOf, landedOf, tokenSet};
+use crate::record::thread_at;
+use crate::record::with_node;
+use crate::record::with_thread;
 use state::Change;
 use state::Machine;
 use state::Outcome;
@@ -31,17 +34,7 @@ fn set_token(m: Machine, thread: ThreadNumber) -> Machine
 {
     let i = thread.0 as usize;
     if i < THREADS {
-        let t = m.threads[i];
-        let w = m.word;
-        let nodes = m.nodes;
-        let mut threads = m.threads;
-        threads[i] = tokened(t);
-        return Machine {
-            count: m.count,
-            word: w,
-            nodes: nodes,
-            threads: threads,
-        };
+        return with_thread(m, i, tokened(thread_at(m, i)));
     }
     m
 }
@@ -59,19 +52,12 @@ fn stored(m: Machine, i: usize, k: usize, c: Change) -> Machine
     requires { ⌜ (i < threadLimit) × (k < threadLimit) ⌝ }
     ensures { λ r. ⌜ r ≡ storedOf m i k c ⌝ }
 {
-    let w = c.word;
     let n = c.node;
     let t = c.thread;
-    let mut nodes = m.nodes;
-    nodes[k] = n;
-    let mut threads = m.threads;
-    threads[i] = t;
-    Machine {
-        count: m.count,
-        word: w,
-        nodes: nodes,
-        threads: threads,
-    }
+    let mut to = with_thread(with_node(m, k, n), i, t);
+    let w = c.word;
+    to.word = w;
+    to
 }
 
 fn applied(m: Machine, i: usize, k: usize, c: Change) -> Outcome

@@ -14,6 +14,7 @@ pub mod begin;
 pub mod code;
 pub mod event;
 pub mod landed;
+pub mod record;
 pub mod step;
 
 pub use code::Call;

@@ -5,6 +5,8 @@ ghost use Rattle.state.specs.Machine.{threadLimit};
 ghost use Rattle.lock.specs.Step.{failingOf, parkingOf, haltedOf, markedOf, markAt, markOf, viewOf, reachedOf, touchingOf, stepOf};
 use crate::advance::advance;
 use crate::landed::land;
+use crate::record::node_at;
+use crate::record::thread_at;
 use state::Access;
 use state::Kind;
 use state::Machine;
@@ -75,7 +77,7 @@ fn mark_at(m: Machine, k: usize) -> Mark
     requires { ⌜ k < threadLimit ⌝ }
     ensures { λ r. ⌜ r ≡ markAt m k ⌝ }
 {
-    let n = m.nodes[k];
+    let n = node_at(m, k);
     if n.writer {
         return Mark::Writer;
     }
@@ -97,10 +99,10 @@ fn view(m: Machine, me: ThreadNumber, k: usize, fails: bool) -> View
     ensures { λ r. ⌜ r ≡ viewOf m me k fails ⌝ }
 {
     let i = me.0 as usize;
-    let t = m.threads[i];
+    let t = thread_at(m, i);
     let place = t.place;
     let holding = t.holding;
-    let n = m.nodes[k];
+    let n = node_at(m, k);
     let w = m.word;
     View {
         me: me,
@@ -118,7 +120,7 @@ fn reached(m: Machine, me: ThreadNumber, k: usize, fails: bool) -> Outcome
     ensures { λ r. ⌜ r ≡ reachedOf m me k fails ⌝ }
 {
     let i = me.0 as usize;
-    let t = m.threads[i];
+    let t = thread_at(m, i);
     let place = t.place;
     land(m, i, k, advance(view(m, me, k, fails), place))
 }
@@ -138,7 +140,7 @@ pub(crate) fn step(m: Machine, me: ThreadNumber, fails: bool) -> Outcome
     ensures { λ r. ⌜ r ≡ stepOf m me fails ⌝ }
 {
     let i = me.0 as usize;
-    let t = m.threads[i];
+    let t = thread_at(m, i);
     let place = t.place;
     let access = Access::of(me, place);
     let kind = access.kind;

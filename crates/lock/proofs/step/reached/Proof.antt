@@ -6,11 +6,8 @@ use Rattle.lock.proofs.step.reached.Tie as tie
 cast-i : tie.Need-cast-i
 cast-i c = search needs
 
-mul-t : tie.Need-mul-t
-mul-t c = search needs
-
-element-copy-out-t : tie.Need-element-copy-out-t
-element-copy-out-t c = search needs
+thread-at-requires : tie.Need-thread-at-requires
+thread-at-requires c κs = search needs
 
 view-requires : tie.Need-view-requires
 view-requires c κs = search needs
@@ -22,9 +19,9 @@ land-requires : tie.Need-land-requires
 land-requires c κs = search needs
 
 returns : tie.Need-returns
-returns c = simp (c .land .ensures, c .before .advance .ensures, c .before .before .view .ensures)
+returns c = simp (c .land .ensures, c .before .advance .ensures, c .before .before .view .ensures, c .before .before .before .thread-at .ensures)
 
 pub reached-spec : {M : Type 1} → statement M
 reached-spec =
     tie.close
-    (tie.spec cast-i mul-t element-copy-out-t view-requires advance-requires land-requires returns)
+    (tie.spec cast-i thread-at-requires view-requires advance-requires land-requires returns)

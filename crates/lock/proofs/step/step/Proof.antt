@@ -1,22 +1,30 @@
--- `lock::step::step` meets its contract: the access found for the place is the one that the rule names, so both halt or touch alike. Assumes nothing.
+-- `lock::step::step` meets its contract: the record and the access found for the thread are the ones that the rule names, so both halt or touch alike. Assumes nothing.
+use mathlib.Core.Bool.{Bool}
+use mathlib.Core.Path.{_≡_, sym, ap, _∙_}
 use borrow.Author.Needs.{needs}
-use mathlib.Core.Path.{sym, ap, _∙_}
 use Rattle.word.specs.declared.number.NodeNumber.{NodeNumber}
-use Rattle.state.specs.Access.{touchedOf}
+use Rattle.word.specs.declared.number.ThreadNumber.{ThreadNumber}
+use Rattle.state.specs.Access.{accessOf, touchedOf}
 use Rattle.state.specs.Machine.{threadAt}
 use Rattle.state.specs.declared.access.Access.{Access}
+use Rattle.state.specs.declared.answer.Verdict.{Verdict}
+use Rattle.state.specs.declared.machine.Machine.{Machine}
+use Rattle.state.specs.declared.machine.Thread.{Thread}
 use Rattle.lock.specs.Step.{haltedOf, touchingOf, stepBy, stepOf}
 use Rattle.lock.proofs.step.step.Statement.{statement}
 use Rattle.lock.proofs.step.step.Tie as tie
 
+-- the record and the access that the code found are those of the rule, so both halt alike
+halts : (m : Machine) (me : ThreadNumber) (fails : Bool) (t : Thread) (a : Access) → t ≡ threadAt m (me .0) → a ≡ accessOf me (t .place) → (x : Verdict) → haltedOf (a .kind) (t .token) fails ≡ x → haltedOf (accessOf me (threadAt m (me .0) .place) .kind) (threadAt m (me .0) .token) fails ≡ x
+halts m me fails t a e f x h =
+    ap (λ (u : Thread). haltedOf (accessOf me (u .place) .kind) (u .token) fails) (sym e) ∙
+    (ap (λ (b : Access). haltedOf (b .kind) (t .token) fails) (sym f) ∙ h)
+
 cast-i : tie.Need-cast-i
 cast-i c = search needs
 
-mul-t : tie.Need-mul-t
-mul-t c = search needs
-
-element-copy-out-t : tie.Need-element-copy-out-t
-element-copy-out-t c = search needs
+thread-at-requires : tie.Need-thread-at-requires
+thread-at-requires c κs = search needs
 
 of-requires : tie.Need-of-requires
 of-requires c κs = search needs
@@ -41,19 +49,28 @@ touching-requires c κs = search needs
 
 returns : tie.Need-returns
 unfolding stepOf
-returns c = simp (c .refused .ensures, sym (c .before .before .before .before .halted .ensures), sym (c .before .before .before .before .before .of .ensures), c .before .before .r .given .1)
+returns c =
+    let s = c .before .before .before .before .before .before .before .before .args in
+    let e = c .before .before .before .before .before .before .thread-at .ensures in
+    c .refused .ensures ∙
+    ap (stepBy (s .m) (s .me) (s .fails) (threadAt (s .m) (s .me .0) .place))
+    (sym
+    (halts (s .m) (s .me) (s .fails) _ _ e (c .before .before .before .before .before .of .ensures) _
+    (sym (c .before .before .before .before .halted .ensures) ∙ c .before .before .r .given .1)))
 
 returns-2 : tie.Need-returns-2
 unfolding stepOf
 returns-2 c =
     let s = c .before .before .before .before .before .before .before .before .args in
-    let e = c .before .before .before .before .before .of .ensures in
+    let e = c .before .before .before .before .before .before .thread-at .ensures in
+    let a = c .before .before .before .before .before .of .ensures in
     c .touching .ensures ∙
-    (ap (λ (n : NodeNumber). touchingOf (s .t1) (s .me) n (s .fails))
-    (c .before .touched .ensures ∙ ap (λ (a : Access). touchedOf a (s .me)) e) ∙
-    ap (stepBy (s .t1) (s .me) (s .fails) (threadAt (s .t1) (s .me .0) .place))
+    (ap (λ (n : NodeNumber). touchingOf (s .m) (s .me) n (s .fails))
+    (c .before .touched .ensures ∙
+    ap (λ (x : Access). touchedOf x (s .me)) (a ∙ ap (λ (x : Thread). accessOf (s .me) (x .place)) e)) ∙
+    ap (stepBy (s .m) (s .me) (s .fails) (threadAt (s .m) (s .me .0) .place))
     (sym
-    (ap (λ (a : Access). haltedOf (a .kind) (threadAt (s .t1) (s .me .0) .token) (s .fails)) (sym e) ∙
+    (halts (s .m) (s .me) (s .fails) _ _ e a _
     (sym (c .before .before .before .before .halted .ensures) ∙ c .before .before .enum-told .given .1))))
 
 pub step-spec : {M : Type 1} → statement M
@@ -61,8 +78,7 @@ step-spec =
     tie.close
     (tie.spec
     cast-i
-    mul-t
-    element-copy-out-t
+    thread-at-requires
     of-requires
     halted-requires
     enum-known-r

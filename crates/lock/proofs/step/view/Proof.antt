@@ -6,17 +6,11 @@ use Rattle.lock.proofs.step.view.Tie as tie
 cast-i : tie.Need-cast-i
 cast-i c = search needs
 
-mul-t : tie.Need-mul-t
-mul-t c = search needs
+thread-at-requires : tie.Need-thread-at-requires
+thread-at-requires c κs = search needs
 
-element-copy-out-t : tie.Need-element-copy-out-t
-element-copy-out-t c = search needs
-
-mul-n : tie.Need-mul-n
-mul-n c = search needs
-
-element-copy-out-n : tie.Need-element-copy-out-n
-element-copy-out-n c = search needs
+node-at-requires : tie.Need-node-at-requires
+node-at-requires c κs = search needs
 
 marked-requires : tie.Need-marked-requires
 marked-requires c κs = search needs
@@ -25,17 +19,9 @@ mark-of-requires : tie.Need-mark-of-requires
 mark-of-requires c κs = search needs
 
 returns : tie.Need-returns
-returns c = simp (c .mark-of .ensures, c .before .marked .ensures)
+returns c = simp (c .mark-of .ensures, c .before .marked .ensures, c .before .before .before .node-at .ensures, c .before .before .before .before .thread-at .ensures)
 
 pub view-spec : {M : Type 1} → statement M
 view-spec =
     tie.close
-    (tie.spec
-    cast-i
-    mul-t
-    element-copy-out-t
-    mul-n
-    element-copy-out-n
-    marked-requires
-    mark-of-requires
-    returns)
+    (tie.spec cast-i thread-at-requires node-at-requires marked-requires mark-of-requires returns)
