@@ -1,6 +1,6 @@
 -- Contend: load; if the lock rule permits, weak compare; else reload or fill the node, and register it. Assumes nothing.
 use Prim.Native.Nat.{ℕ, _+_}
-use mathlib.Core.Bool.{Bool, true, false}
+use mathlib.Core.Bool.{Bool}
 use lib.Dec.{ltb}
 use Rattle.word.specs.Base.{pick}
 use Rattle.word.specs.Flags.{queued, queueLocked}

@@ -1,5 +1,5 @@
 -- try_read: load, then weak compare to read_lock; a refusal by read_lock ends it with no. read makes that attempt first, then contends. Assumes nothing.
-use mathlib.Core.Bool.{Bool, true, false}
+use mathlib.Core.Bool.{Bool, false}
 use Rattle.word.specs.Base.{pick}
 use Rattle.word.specs.Rules.{readLockOf}
 use Rattle.word.specs.declared.flags.Word.{Word}

@@ -1,5 +1,4 @@
 -- What an event did to the lock and to the queue, read off the machine before and the machine after it. A refused event, which leaves the machine as it was, did nothing. Assumes nothing.
-use Prim.Native.Nat.{ℕ}
 use mathlib.Core.Bool.{Bool, true, false, not}
 use lib.Dec.{ltb, eqb}
 use Rattle.word.specs.Base.{pick}

@@ -1,6 +1,6 @@
 -- Laws of the numbers that an event goes by: where a slot lies, what a good count says. Assumes nothing.
 use Prim.Native.Nat.{ℕ, _+_, _-_, _≤_, _<_}
-use mathlib.Core.Bool.{Bool, true, false}
+use mathlib.Core.Bool.{true, false}
 use mathlib.Core.Path.{_≡_, sym, subst}
 use native.Mathlib.Omega.{arith}
 use lib.Dec.{T, ltb, leb}
@@ -9,7 +9,6 @@ use Rattle.word.specs.Cases.{pick-second}
 use Rattle.word.specs.Base.{pick}
 use Rattle.word.specs.Number.{slotOf}
 use Rattle.word.specs.declared.number.NodeNumber.{NodeNumber}
-use Rattle.word.specs.declared.number.Slot.{Slot}
 use Rattle.word.specs.declared.number.Slot.the-variants.{Outside, At}
 use Rattle.state.specs.Machine.{threadLimit, goodCount}
 

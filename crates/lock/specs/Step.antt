@@ -1,6 +1,6 @@
 -- A step, code 16, or a step that fails for no cause, code 17: refusals 5, 6, 7, then 8, then the rule of the place. Assumes nothing.
 use Prim.Native.Nat.{ℕ}
-use mathlib.Core.Bool.{Bool, true, false}
+use mathlib.Core.Bool.{Bool}
 use Rattle.word.specs.Base.{pick}
 use Rattle.word.specs.Number.{none, slotOf}
 use Rattle.word.specs.declared.number.ThreadNumber.{ThreadNumber}

@@ -7,8 +7,8 @@ use native.Mathlib.Omega.{arith}
 use borrow.Author.Tests.{ne-eqb, eqb-true}
 use lib.Dec.{T, eqb, ltb}
 use Rattle.word.specs.Base.{pick}
-use Rattle.word.specs.Cases.{pick-both, pick-first}
-use Rattle.word.specs.Flags.{word, LOCKED, QUEUED, QUEUE-LOCKED, DOWNGRADED, SINGLE, locked, queued, queueLocked, downgraded, clearLocked, setQueueLocked, setDowngraded}
+use Rattle.word.specs.Cases.{pick-both}
+use Rattle.word.specs.Flags.{word, LOCKED, QUEUE-LOCKED, DOWNGRADED, SINGLE, locked, queued, queueLocked, downgraded, clearLocked, setQueueLocked, setDowngraded}
 use Rattle.word.specs.Rules.{readLockOf, writeLockOf, readUnlockOf}
 use Rattle.word.specs.Laws.{read-lock-more, write-lock-granted, read-unlock-less, clear-has, set-has, set-keeps}
 use Rattle.word.specs.declared.flags.Word.{Word}
@@ -18,13 +18,10 @@ use Rattle.word.specs.declared.rules.WriteLocked.{WriteLocked}
 use Rattle.word.specs.declared.rules.WriteLocked.the-variants.{To as WriteTo, Refused as WriteRefused}
 use Rattle.word.specs.declared.rules.ReadUnlocked.{ReadUnlocked}
 use Rattle.word.specs.declared.rules.ReadUnlocked.the-variants.{To as UnlockTo, Contended, Refused as UnlockRefused}
-use Rattle.state.specs.Node.{filledOf}
-use Rattle.state.specs.View.{at, end, walkFrom, agreesOf, stays, writes, links}
+use Rattle.state.specs.View.{at, end, agreesOf, stays, writes}
 use Rattle.state.specs.declared.answer.Answer.the-variants.{Done}
 use Rattle.state.specs.declared.holding.Holding.{Holding}
-use Rattle.state.specs.declared.holding.Holding.the-variants.{Nothing as HoldsNothing, Read, Write}
-use Rattle.state.specs.declared.place.Who.the-variants.{Leaver}
-use Rattle.state.specs.declared.place.Walk.the-variants.{Queue, Downgrade, ReadUnlock}
+use Rattle.state.specs.declared.holding.Holding.the-variants.{Nothing as HoldsNothing, Read}
 use Rattle.state.specs.declared.place.Place.{Place}
 use Rattle.state.specs.declared.place.Place.the-variants.{Idle, TryReadLoad, TryReadCas, TryWriteOr, ContendLoad, ContendCas, RegisterCas, CompletedLoad, Park, WalkTail, WalkNext, WalkPrev, WalkHead, QueueCas, SplitPrev, SplitStore, SplitCas, SplitRestore, TakeCas, WakePrev, WakeStore, ReadUnlockLoad, ReadUnlockCas, Subtract, WriteUnlockCas, ReleaseCas, DowngradeCas, DowngradeSlowCas}
 use Rattle.state.specs.declared.view.View.{View}

@@ -1,10 +1,10 @@
 -- What an accepted event is: a call begun, or a step whose access lies in the machine and whose rule accepts, with its change stored. Assumes nothing.
 use Prim.Native.Nat.{ℕ, _<_}
 use mathlib.Core.Bool.{Bool, true, false}
-use mathlib.Core.Path.{_≡_, refl, sym, subst, _∙_}
+use mathlib.Core.Path.{_≡_, refl}
 use native.Mathlib.Omega.{arith}
 use borrow.Author.Tests.{leb-false, eqb-true}
-use lib.Dec.{T, leb, eqb}
+use lib.Dec.{leb, eqb}
 use Rattle.word.specs.Base.{pick}
 use Rattle.word.specs.Cases.{pick-both, pick-first, pick-second}
 use Rattle.word.specs.Number.{slotOf}
@@ -17,7 +17,7 @@ use Rattle.state.specs.Machine.{goodCount, threadAt, refusedOf}
 use Rattle.state.specs.declared.answer.Answer.{Answer}
 use Rattle.state.specs.declared.answer.Refusal.{Refusal}
 use Rattle.state.specs.declared.answer.Refusal.the-variants.{UnknownCode, NoThread, InsideCall, WrongHolding, Damaged}
-use Rattle.state.specs.declared.answer.Reply.the-variants.{Accepted, Refused}
+use Rattle.state.specs.declared.answer.Reply.the-variants.{Accepted}
 use Rattle.state.specs.declared.answer.Verdict.{Verdict}
 use Rattle.state.specs.declared.answer.Verdict.the-variants.{Fine, Refused as Denied}
 use Rattle.state.specs.declared.machine.Machine.{Machine}

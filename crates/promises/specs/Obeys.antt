@@ -10,11 +10,10 @@ use Rattle.word.specs.Base.{pick}
 use Rattle.word.specs.Cases.{pick-both}
 use Rattle.word.specs.Number.{isNone, none, ownerOf}
 use Rattle.word.specs.Flags.{word, LOCKED, SINGLE, toNode, clearQueueLocked, queued, queueLocked, locked, downgraded, setLocked}
-use Rattle.word.specs.Rules.{registeredOf, takenOf, readLockOf, writeLockOf, readUnlockOf}
+use Rattle.word.specs.Rules.{registeredOf, takenOf, readLockOf, readUnlockOf}
 use Rattle.word.specs.Laws.{read-lock-more}
 use Rattle.word.specs.declared.flags.Word.{Word}
 use Rattle.word.specs.declared.number.NodeNumber.{NodeNumber}
-use Rattle.word.specs.declared.number.Owner.{Owner}
 use Rattle.word.specs.declared.number.Owner.the-variants.{Nobody}
 use Rattle.word.specs.declared.rules.ReadLocked.{ReadLocked}
 use Rattle.word.specs.declared.rules.ReadLocked.the-variants.{To as ReadTo, Refused as ReadRefused}
@@ -22,14 +21,12 @@ use Rattle.word.specs.declared.rules.ReadUnlocked.{ReadUnlocked}
 use Rattle.word.specs.declared.rules.ReadUnlocked.the-variants.{To as UnlockTo, Contended, Refused as UnlockRefused}
 use Rattle.state.specs.Access.{accessOf}
 use Rattle.state.specs.Node.{filledOf, withNext, withPrev, withTail, withCompleted}
-use Rattle.state.specs.View.{at, end, afterQueue, walkFrom, agreesOf, changedOf, stays, writes, links, subtracts, completes, parks}
-use Rattle.state.specs.declared.access.Access.{Access}
+use Rattle.state.specs.View.{at, end, afterQueue, walkFrom, agreesOf, stays, writes, links, subtracts, completes, parks}
 use Rattle.state.specs.declared.access.Kind.{Kind}
 use Rattle.state.specs.declared.access.Kind.the-variants.{Nothing, Load, Store, WeakCompare, StrongCompare, FetchOr, Subtract as Subtracting, Complete, Park as Parking}
 use Rattle.state.specs.declared.access.Location.{Location}
 use Rattle.state.specs.declared.access.Location.the-variants.{Nowhere, Word as TheWord, Next, Prev, Tail, Completed, Token}
-use Rattle.state.specs.declared.answer.Answer.{Answer}
-use Rattle.state.specs.declared.answer.Answer.the-variants.{Begun, Went, Done, Yes, No}
+use Rattle.state.specs.declared.answer.Answer.the-variants.{Done, Yes, No}
 use Rattle.state.specs.declared.answer.Refusal.the-variants.{Damaged}
 use Rattle.state.specs.declared.holding.Holding.{Holding}
 use Rattle.state.specs.declared.holding.Holding.the-variants.{Nothing as HoldsNothing, Read, Write}
@@ -48,23 +45,23 @@ use Rattle.state.specs.declared.view.Change.{Change}
 use Rattle.state.specs.declared.view.Stepped.{Stepped}
 use Rattle.state.specs.declared.view.Stepped.the-variants.{To, Refused}
 use Rattle.lock.specs.Advance.{advanceOf}
-use Rattle.lock.specs.Effect.{LockEffect, Stand, ended, walks, waits, wakes, completing, splitting, releasing, elsewhere, keeps, grantsRead, grantsWrite, releasesRead, releasesWrite, downgrades, lockEffect, releaseOf, atEnd, standOf, heldAfter, grants}
+use Rattle.lock.specs.Effect.{LockEffect, Stand, ended, walks, elsewhere, keeps, grantsRead, grantsWrite, releasesRead, releasesWrite, downgrades, lockEffect, releaseOf, atEnd, standOf, heldAfter, grants}
 use Rattle.walk.specs.FindTail.{walkTailOf, walkNextOf, walkPrevOf}
 use Rattle.walk.specs.CompleteAll.{wakePrevOf, wakeStoreOf}
-use Rattle.acquire.specs.TryWrite.{tryWriteRefused, tryWriteDone, tryWriteOrOf}
-use Rattle.acquire.specs.LockContended.{permittedOf, grantedOf, fillOf, reloadOrFill, contendBy, contendJudged, contendLoadOf, contendCasBy, contendCasOf, afterRegister, registerCasOf, spinCount}
+use Rattle.acquire.specs.TryWrite.{tryWriteOrOf}
+use Rattle.acquire.specs.LockContended.{permittedOf, fillOf, contendBy, contendJudged, contendLoadOf, contendCasBy, contendCasOf, afterRegister, registerCasOf, spinCount}
 use Rattle.acquire.specs.declared.lock_contended.Permitted.{Permitted}
 use Rattle.acquire.specs.declared.lock_contended.Permitted.the-variants.{To as PermitTo, Refused as PermitRefused}
 use Rattle.acquire.specs.Wait.{completedLoadOf, parkOf}
-use Rattle.unlock.specs.AfterWalk.{markedBy, tailMarked, tailFound, walkedOf, walkHeadOf}
+use Rattle.unlock.specs.AfterWalk.{markedBy, tailMarked, tailFound, walkHeadOf}
 use Rattle.unlock.specs.UnlockQueue.{walkAgain, queueCasOf, splitPrevOf, splitStoreOf, splitCasOf, splitRestoreOf, takeCasOf}
 use Rattle.release.specs.ReadUnlock.{readUnlockBy, readUnlockJudged, readUnlockLoadOf, readUnlockCasBy, readUnlockCasOf, afterSubtract, subtractOf}
 use Rattle.release.specs.WriteUnlock.{writeUnlockCasOf}
 use Rattle.release.specs.UnlockContended.{releasedTo, afterRelease, releaseCasOf}
 use Rattle.release.specs.Downgrade.{downgradeCasOf, downgradedWord, afterDowngrade, downgradeSlowCasOf}
-use Rattle.acquire.specs.TryRead.{tryReadBy, tryReadJudged, tryReadLoadOf, tryReadCasBy, tryReadCasOf, tryReadDone}
+use Rattle.acquire.specs.TryRead.{tryReadBy, tryReadJudged, tryReadLoadOf, tryReadCasBy, tryReadCasOf}
 use Rattle.promises.specs.Refusals.{and}
-use Rattle.promises.specs.Shared.{Unless, Obeys, keptBut, keptBy, fieldAt, fills, wokenBy, writesWord, isWeak, takesToken, tries, acquires, isYes, isDone, byWaiter, walkOfWaiter}
+use Rattle.promises.specs.Shared.{Unless, Obeys, keptBut, keptBy, fieldAt, fills, wokenBy, writesWord, isWeak, takesToken, tries, acquires, isYes, isDone, byWaiter}
 
 -- ── small laws ──
 

@@ -1,7 +1,7 @@
 -- Document 01's refusal table: each number with its condition, in the order of checking. Assumes nothing.
 use Prim.Native.Nat.{ℕ, _+_, _-_}
 use mathlib.Core.Bool.{Bool, true, false, not}
-use mathlib.Core.List.{List, [], _∷_, _++_}
+use mathlib.Core.List.{List, [], _∷_}
 use lib.Dec.{leb, ltb, eqb}
 use Rattle.word.specs.Base.{pick}
 use Rattle.word.specs.Flags.{LOCKED, SINGLE, locked, queued, downgraded}

@@ -3,7 +3,6 @@ use mathlib.Core.Bool.{Bool, true, false, not}
 use mathlib.Core.Path.{_≡_}
 use mathlib.Core.Logic.{_⊎_}
 use lib.Dec.{eqb}
-use Rattle.word.specs.Base.{pick}
 use Rattle.word.specs.Number.{ownerOf}
 use Rattle.word.specs.declared.number.Owner.{Owner}
 use Rattle.word.specs.declared.number.Owner.the-variants.{Nobody}

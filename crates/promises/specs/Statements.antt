@@ -4,9 +4,7 @@ use Prim.Native.Nat.{ℕ, _+_}
 use mathlib.Core.Bool.{Bool, true, false, not}
 use mathlib.Core.Logic.{_⊎_}
 use mathlib.Core.Path.{_≡_}
-use lib.Dec.{eqb}
 use lib.ListN.{length}
-use Rattle.word.specs.Base.{pick}
 use Rattle.word.specs.Flags.{locked, queued, downgraded}
 use Rattle.word.specs.Number.{thread}
 use Rattle.word.specs.declared.number.Owner.{Owner}

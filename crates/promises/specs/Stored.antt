@@ -1,12 +1,10 @@
 -- How a machine reads after a change is stored and a thread woken: word, count, each node, each thread's place, holding and token. Assumes nothing.
 use Prim.Native.Nat.{ℕ, zero, suc}
-use mathlib.Core.Bool.{Bool, true, false}
 use mathlib.Core.List.{List, [], _∷_}
 use mathlib.Core.Logic.{_⊎_, inl, inr, ⊎-elim}
 use mathlib.Core.Path.{_≡_, refl, sym, ap, _∙_}
 use lib.Dec.{ltb}
 use lib.ListN.{length, getD, set, length-set}
-use Rattle.word.specs.Base.{pick}
 use Rattle.word.specs.Cases.{pick-both}
 use Rattle.word.specs.Number.{thread}
 use Rattle.word.specs.declared.number.Owner.{Owner}

@@ -1,26 +1,25 @@
 -- The statements of Statements.antt hold. Each is read off what an accepted event is (Happened.antt) and what its rule does (Obeys.antt). Assumes nothing.
-use Prim.Native.Nat.{ℕ, _+_, _<_, _≤_}
+use Prim.Native.Nat.{ℕ, _+_}
 use mathlib.Core.Bool.{Bool, true, false, not}
 use mathlib.Core.List.{List}
 use mathlib.Core.Logic.{_⊎_, inl, inr, ⊎-elim}
 use mathlib.Core.Path.{_≡_, refl, sym, ap, subst, _∙_}
 use native.Mathlib.Omega.{arith}
 use borrow.Author.Tests.{eq-eqb, leb-true, eqb-true, eqb-false}
-use lib.Dec.{T, leb, eqb}
-use lib.ListN.{length, getD, set, length-set}
+use lib.Dec.{leb, eqb}
+use lib.ListN.{length, getD, length-set}
 use lib.Seq.{getD-set-same}
 use Rattle.word.specs.Base.{pick}
 use Rattle.word.specs.Cases.{pick-both, pick-first}
-use Rattle.word.specs.Number.{thread, node, nodeOf, slotOf}
+use Rattle.word.specs.Number.{thread, node}
 use Rattle.word.specs.declared.flags.Word.{Word}
 use Rattle.word.specs.declared.number.Owner.{Owner}
 use Rattle.word.specs.declared.number.Owner.the-variants.{Nobody, Thread as Somebody}
 use Rattle.word.specs.declared.number.NodeNumber.{NodeNumber}
 use Rattle.word.specs.declared.number.ThreadNumber.{ThreadNumber}
 use Rattle.state.specs.Access.{accessOf, touchedOf}
-use Rattle.state.specs.Machine.{threadLimit, goodCount, blankThread, threadAt, nodeAt, refusedOf}
-use Rattle.state.specs.Node.{filledOf, blankNode}
-use Rattle.state.specs.declared.access.Access.{Access}
+use Rattle.state.specs.Machine.{blankThread, threadAt, nodeAt}
+use Rattle.state.specs.Node.{blankNode}
 use Rattle.state.specs.declared.access.Kind.{Kind}
 use Rattle.state.specs.declared.access.Location.{Location}
 use Rattle.state.specs.declared.access.Kind.the-variants.{WeakCompare}
@@ -28,32 +27,26 @@ use Rattle.state.specs.declared.answer.Answer.{Answer}
 use Rattle.state.specs.declared.answer.Answer.the-variants.{Begun as BegunAnswer}
 use Rattle.state.specs.declared.answer.Reply.{Reply}
 use Rattle.state.specs.declared.answer.Reply.the-variants.{Accepted, Refused}
-use Rattle.state.specs.declared.holding.Holding.{Holding}
 use Rattle.state.specs.declared.machine.Machine.{Machine}
 use Rattle.state.specs.declared.machine.Thread.{Thread}
 use Rattle.state.specs.declared.machine.Outcome.{Outcome}
 use Rattle.state.specs.declared.node.Node.{Node}
 use Rattle.state.specs.declared.place.Place.{Place}
-use Rattle.state.specs.declared.place.Place.the-variants.{Idle}
-use Rattle.state.specs.declared.view.Change.{Change}
 use Rattle.state.specs.declared.view.View.{View}
-use Rattle.state.specs.declared.view.Stepped.{Stepped}
-use Rattle.state.specs.declared.view.Stepped.the-variants.{To}
 use Rattle.lock.specs.declared.code.Call.{Call}
 use Rattle.lock.specs.declared.code.Code.{Code}
 use Rattle.lock.specs.declared.code.Code.the-variants.{Begin, Step, Fail, Unknown}
 use Rattle.lock.specs.Code.{callOf, codeOf}
 use Rattle.lock.specs.Begin.{firstPlace, placedOf, beganOf}
 use Rattle.lock.specs.Laws.{slot-at, good-count}
-use Rattle.lock.specs.Landed.{wokenOf, storedOf, appliedOf}
+use Rattle.lock.specs.Landed.{wokenOf, storedOf}
 use Rattle.lock.specs.Step.{viewAt}
-use Rattle.lock.specs.Advance.{advanceOf}
 use Rattle.lock.specs.Event.{eventOf}
-use Rattle.lock.specs.Effect.{LockEffect, Stand, Effect, effectOf, lockEffect, standOf, keeps, stands, heldAfter, grants, wordChanged}
+use Rattle.lock.specs.Effect.{LockEffect, effectOf, lockEffect, standOf, keeps, heldAfter, grants, wordChanged}
 use Rattle.promises.specs.Refusals.{and, begins, steps}
 use Rattle.promises.specs.RefusalProofs.{refusal-table, refused-unchanged}
 use Rattle.promises.specs.Shared.{Unless, Obeys, lockDone, keptBut, keptBy, fills, writesWord, isWeak, takesToken, tries, acquires, isYes, isDone}
-use Rattle.promises.specs.Obeys.{All, obeys, kept-same}
+use Rattle.promises.specs.Obeys.{All, obeys}
 use Rattle.promises.specs.Changes.{Moves, moves}
 use Rattle.promises.specs.Happened.{Begun, Stepping, Happened, begun, stepped, happened}
 use Rattle.promises.specs.Places.{fills-own, idle-is, effect-kind, still-lock, still-queue}

@@ -1,6 +1,6 @@
 -- The machine and its limit; a fresh one; one handed back with a refusal. Assumes nothing.
 use Prim.Native.Nat.{ℕ}
-use mathlib.Core.Bool.{Bool, true, false}
+use mathlib.Core.Bool.{Bool, false}
 use lib.Dec.{ltb, leb}
 use lib.ListN.{replicate, getD}
 use Rattle.word.specs.Base.{pick}
