@@ -1,0 +1,26 @@
+// The schedule file, and the replay of its events.
+//
+//     byte 0      bytes 1..4                  byte 5     bytes 6..
+//     version     length of what follows      threads    code, thread, code, thread, ..
+//
+//     file::check(s)                 accepted with threads and events, or refused 10 to 14
+//     replay::replay(machine, s)     any machine, a bare run of events: until one is refused or none is left
+//     replay::rest(s, run)           the unread rest, the refused event included
+//     replay::unread(machine, s)     the rest that the replay leaves
+//     whole::replay_file(s)          both: a refused file runs nothing
+//     cursor::next(cursor, s)        event by event, through the same states
+//L pub mod cursor;
+pub mod file;
+pub mod part;
+//L pub mod replay;
+//L pub mod whole;
+
+//L pub use cursor::Cursor;
+//L pub use cursor::Moved;
+//L pub use cursor::Seen;
+pub use file::Checked;
+pub use file::FileRefusal;
+//L pub use replay::Replayed;
+//L pub use replay::Stop;
+//L pub use whole::FileReplayed;
+//L pub use whole::FileStop;
