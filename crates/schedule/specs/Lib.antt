@@ -1,1 +1,6 @@
 pub mod File
+pub mod Replay
+pub mod ReplayLaws
+pub mod Whole
+pub mod Cursor
+pub mod CursorLaws

@@ -9,18 +9,18 @@
 //     replay::unread(machine, s)     the rest that the replay leaves
 //     whole::replay_file(s)          both: a refused file runs nothing
 //     cursor::next(cursor, s)        event by event, through the same states
-//L pub mod cursor;
+pub mod cursor;
 pub mod file;
 pub mod part;
-//L pub mod replay;
-//L pub mod whole;
+pub mod replay;
+pub mod whole;
 
-//L pub use cursor::Cursor;
-//L pub use cursor::Moved;
-//L pub use cursor::Seen;
+pub use cursor::Cursor;
+pub use cursor::Moved;
+pub use cursor::Seen;
 pub use file::Checked;
 pub use file::FileRefusal;
-//L pub use replay::Replayed;
-//L pub use replay::Stop;
-//L pub use whole::FileReplayed;
-//L pub use whole::FileStop;
+pub use replay::Replayed;
+pub use replay::Stop;
+pub use whole::FileReplayed;
+pub use whole::FileStop;
