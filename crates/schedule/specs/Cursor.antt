@@ -33,4 +33,4 @@ movedOf c s = pick (leb (length s / eventWidth) (c .at)) (record { cursor = c; s
 -- the cursor after so many moves
 unfoldable pub cursorAfter : ℕ → Cursor → List ℕ → Cursor
 cursorAfter zero c s = c
-cursorAfter (suc k) c s = cursorAfter k (movedOf c s .cursor) s
+cursorAfter (suc k) c s = movedOf (cursorAfter k c s) s .cursor

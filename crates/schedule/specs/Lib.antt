@@ -4,3 +4,5 @@ pub mod ReplayLaws
 pub mod Whole
 pub mod Cursor
 pub mod CursorLaws
+pub mod Statements
+pub mod Beginnings

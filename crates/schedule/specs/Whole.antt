@@ -16,28 +16,28 @@ use Rattle.schedule.specs.declared.whole.FileStop.{FileStop}
 use Rattle.schedule.specs.declared.whole.FileStop.the-variants.{Ran as FileRan, Refused as FileStopped, File}
 use Rattle.schedule.specs.declared.whole.FileReplayed.{FileReplayed}
 
-abbrev pub stopOf : Stop → FileStop
-stopOf Ran = FileRan
-stopOf (Stopped refusal) = FileStopped refusal
+abbrev pub fileStopOf : Stop → FileStop
+fileStopOf Ran = FileRan
+fileStopOf (Stopped refusal) = FileStopped refusal
 
-abbrev pub ranOf : Replayed → FileReplayed
-ranOf r = record { machine = r .machine; run = r .run; stop = stopOf (r .stop) }
+abbrev pub fileRanOf : Replayed → FileReplayed
+fileRanOf r = record { machine = r .machine; run = r .run; stop = fileStopOf (r .stop) }
 
-abbrev pub refusedOf : FileRefusal → FileReplayed
-refusedOf refusal = record { machine = madeOf 1; run = 0; stop = File refusal }
+abbrev pub fileRefusedOf : FileRefusal → FileReplayed
+fileRefusedOf refusal = record { machine = madeOf 1; run = 0; stop = File refusal }
 
-abbrev pub replayBy : Checked → List ℕ → FileReplayed
-replayBy (Accepted threads events) s = ranOf (replayOf (freshOf threads .machine) (drop headerLength s))
-replayBy (Refused refusal) s = refusedOf refusal
+abbrev pub fileReplayBy : Checked → List ℕ → FileReplayed
+fileReplayBy (Accepted threads events) s = fileRanOf (replayOf (freshOf threads .machine) (drop headerLength s))
+fileReplayBy (Refused refusal) s = fileRefusedOf refusal
 
 abbrev pub fileReplayOf : List ℕ → FileReplayed
-fileReplayOf s = replayBy (checkedOf s) s
+fileReplayOf s = fileReplayBy (checkedOf s) s
 
 -- the unread rest by why it stopped and how many events ran
-abbrev pub restBy : FileStop → ℕ → List ℕ → List ℕ
-restBy (File refusal) run s = s
-restBy FileRan run s = drop (eventWidth * run) (drop headerLength s)
-restBy (FileStopped refusal) run s = drop (eventWidth * run) (drop headerLength s)
+abbrev pub fileRestBy : FileStop → ℕ → List ℕ → List ℕ
+fileRestBy (File refusal) run s = s
+fileRestBy FileRan run s = drop (eventWidth * run) (drop headerLength s)
+fileRestBy (FileStopped refusal) run s = drop (eventWidth * run) (drop headerLength s)
 
 abbrev pub fileRestOf : List ℕ → List ℕ
-fileRestOf s = restBy (fileReplayOf s .stop) (fileReplayOf s .run) s
+fileRestOf s = fileRestBy (fileReplayOf s .stop) (fileReplayOf s .run) s

@@ -1,6 +1,6 @@
 // A whole file: checked, then replayed from a fresh machine of its threads. A refused file runs nothing.
 ghost use mathlib.Core.Path.{_≡_};
-ghost use Rattle.schedule.specs.Whole.{stopOf, ranOf, refusedOf, fileReplayOf, restBy, fileRestOf};
+ghost use Rattle.schedule.specs.Whole.{fileStopOf, fileRanOf, fileRefusedOf, fileReplayOf, fileRestBy, fileRestOf};
 use crate::file::Checked;
 use crate::file::FileRefusal;
 use crate::file::check;
@@ -25,7 +25,7 @@ pub struct FileReplayed {
 }
 
 fn stop_of(stop: Stop) -> FileStop
-    ensures { λ r. ⌜ r ≡ stopOf stop ⌝ }
+    ensures { λ r. ⌜ r ≡ fileStopOf stop ⌝ }
 {
     match stop {
         Stop::Ran => FileStop::Ran,
@@ -34,7 +34,7 @@ fn stop_of(stop: Stop) -> FileStop
 }
 
 fn ran(done: Replayed) -> FileReplayed
-    ensures { λ r. ⌜ r ≡ ranOf done ⌝ }
+    ensures { λ r. ⌜ r ≡ fileRanOf done ⌝ }
 {
     let machine = done.machine;
     let stop = done.stop;
@@ -46,7 +46,7 @@ fn ran(done: Replayed) -> FileReplayed
 }
 
 fn refused(refusal: FileRefusal) -> FileReplayed
-    ensures { λ r. ⌜ r ≡ refusedOf refusal ⌝ }
+    ensures { λ r. ⌜ r ≡ fileRefusedOf refusal ⌝ }
 {
     let fresh = Machine::fresh(1);
     let machine = fresh.machine;
@@ -72,7 +72,7 @@ pub fn replay_file(s: &[u8]) -> FileReplayed
 
 // A refused file is handed back whole; of another, what its replay left.
 pub fn rest_of_file(s: &[u8], stop: FileStop, run: usize) -> &[u8]
-    ensures { λ r. ⌜ now r ≡ restBy stop run (now (s .entry)) ⌝ }
+    ensures { λ r. ⌜ now r ≡ fileRestBy stop run (now (s .entry)) ⌝ }
 {
     match stop {
         FileStop::File(_) => s,
