@@ -6,3 +6,6 @@ pub mod Cursor
 pub mod CursorLaws
 pub mod Statements
 pub mod Beginnings
+pub mod Theorems
+pub mod Judged
+pub mod Determined
