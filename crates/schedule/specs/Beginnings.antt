@@ -8,14 +8,12 @@ use native.Mathlib.Omega.{arith}
 use borrow.Author.Tests.{ltb-true, ltb-false}
 use lib.Dec.{ltb}
 use lib.ListN.{length, drop}
-use Rattle.word.specs.declared.number.Owner.{Owner}
 use Rattle.state.specs.declared.machine.Machine.{Machine}
-use Rattle.state.specs.declared.answer.Answer.{Answer}
 use Rattle.state.specs.declared.answer.Reply.{Reply}
 use Rattle.state.specs.declared.answer.Reply.the-variants.{Accepted, Refused}
 use Rattle.schedule.specs.File.{eventWidth}
 use Rattle.schedule.specs.Replay.{eventAt, after, replayOf}
-use Rattle.schedule.specs.ReplayLaws.{replayed, after-zero, ended-here, refused-here, accepted-here}
+use Rattle.schedule.specs.ReplayLaws.{after-zero, ended-here, refused-here, accepted-here}
 use Rattle.schedule.specs.Statements.{stateAt, replyAt, Accepts, Beginning, End, none-left, refused}
 use Rattle.schedule.specs.declared.replay.Replayed.{Replayed}
 

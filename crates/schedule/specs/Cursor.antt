@@ -12,7 +12,6 @@ use Rattle.state.specs.declared.answer.Reply.the-variants.{Accepted, Refused}
 use Rattle.schedule.specs.File.{eventWidth}
 use Rattle.schedule.specs.Replay.{codeAt, threadAt, eventAt}
 use Rattle.schedule.specs.declared.cursor.Cursor.{Cursor}
-use Rattle.schedule.specs.declared.cursor.Seen.{Seen}
 use Rattle.schedule.specs.declared.cursor.Seen.the-variants.{Ended, Event}
 use Rattle.schedule.specs.declared.cursor.Moved.{Moved}
 

@@ -16,7 +16,6 @@ use Rattle.schedule.specs.Cursor.{reached, movedBy, movedOf}
 use Rattle.schedule.specs.declared.cursor.Cursor.{Cursor}
 use Rattle.schedule.specs.declared.cursor.Seen.{Seen}
 use Rattle.schedule.specs.declared.cursor.Seen.the-variants.{Ended, Event}
-use Rattle.schedule.specs.declared.cursor.Moved.{Moved}
 
 module _ (c : Cursor) (s : List ℕ) where
   pub moved-ended : length s / eventWidth ≤ c .at → movedOf c s ≡ record { cursor = c; seen = Ended }

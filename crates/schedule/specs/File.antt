@@ -1,7 +1,7 @@
 -- The schedule file's check, by document 01: its numbers, and the order of its refusals 10 to 14. Another version of the
 -- file changes the numbers here and not the form. Assumes nothing.
 use Prim.Native.Nat.{ℕ, _+_, _-_, _*_, _/_, _%_}
-use mathlib.Core.Bool.{Bool, true, false}
+use mathlib.Core.Bool.{Bool, false}
 use mathlib.Core.List.{List}
 use lib.Dec.{leb, eqb}
 use lib.ListN.{length, getD}

@@ -1,6 +1,6 @@
 -- The file's check in words: each refusal exactly on its condition, where those before it do not hold. Assumes nothing.
 use Prim.Native.Nat.{ℕ, _+_, _-_, _*_, _%_, _<_, _≤_}
-use mathlib.Core.Bool.{Bool, true, false}
+use mathlib.Core.Bool.{true, false}
 use mathlib.Core.List.{List}
 use mathlib.Core.Path.{_≡_, sym, subst, _∙_}
 use native.Mathlib.Omega.{arith}
@@ -10,7 +10,6 @@ use lib.ListN.{length, getD}
 use Rattle.word.specs.Cases.{pick-both, pick-first}
 use Rattle.state.specs.Machine.{goodCount}
 use Rattle.schedule.specs.File.{fileVersion, countedFrom, headerLength, eventWidth, eventLimit, statedLength, rightLength, threadsIn, eventsIn, unless, checkedOf}
-use Rattle.schedule.specs.declared.file.FileRefusal.{FileRefusal}
 use Rattle.schedule.specs.declared.file.FileRefusal.the-variants.{TooShort, Version, Length, Threads, TooMany}
 use Rattle.schedule.specs.declared.file.Checked.{Checked}
 use Rattle.schedule.specs.declared.file.Checked.the-variants.{Accepted, Refused}

@@ -7,12 +7,10 @@ use Rattle.word.specs.Number.{thread}
 use Rattle.word.specs.declared.number.ThreadNumber.{ThreadNumber}
 use Rattle.state.specs.declared.machine.Machine.{Machine}
 use Rattle.state.specs.declared.machine.Outcome.{Outcome}
-use Rattle.state.specs.declared.answer.Refusal.{Refusal}
 use Rattle.state.specs.declared.answer.Reply.{Reply}
 use Rattle.state.specs.declared.answer.Reply.the-variants.{Accepted, Refused}
 use Rattle.lock.specs.Event.{eventOf}
 use Rattle.schedule.specs.File.{eventWidth}
-use Rattle.schedule.specs.declared.replay.Stop.{Stop}
 use Rattle.schedule.specs.declared.replay.Stop.the-variants.{Ran, Refused as Stopped}
 use Rattle.schedule.specs.declared.replay.Replayed.{Replayed}
 

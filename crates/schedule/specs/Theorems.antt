@@ -4,13 +4,13 @@ use Prim.Native.Nat.{ℕ, zero, suc, _+_, _*_, _/_, _<_, _≤_}
 use mathlib.Core.List.{List, _∷_}
 use mathlib.Core.Path.{_≡_, refl, sym, ap, subst, _∙_}
 use native.Mathlib.Omega.{arith}
-use lib.ListN.{length, getD, take, drop}
+use lib.ListN.{length, take, drop}
 use lib.Seq.{length-take-le, getD-take}
 use Rattle.word.specs.Number.{thread}
 use Rattle.state.specs.declared.machine.Machine.{Machine}
 use Rattle.state.specs.declared.machine.Outcome.{Outcome}
+use Rattle.state.specs.declared.answer.Refusal.{Refusal}
 use Rattle.state.specs.declared.answer.Reply.the-variants.{Refused}
-use Rattle.lock.specs.Event.{eventOf}
 use Rattle.schedule.specs.File.{eventWidth, checkedOf}
 use Rattle.schedule.specs.Replay.{codeAt, threadAt, eventAt, replayOf}
 use Rattle.schedule.specs.ReplayLaws.{replayed, drop-event}
@@ -22,7 +22,6 @@ use Rattle.schedule.specs.Beginnings.{end, ran-accepted, longest}
 use Rattle.schedule.specs.declared.file.FileRefusal.{FileRefusal}
 use Rattle.schedule.specs.declared.file.Checked.{Checked}
 use Rattle.schedule.specs.declared.file.Checked.the-variants.{Refused as Denied}
-use Rattle.schedule.specs.declared.replay.Stop.{Stop}
 use Rattle.schedule.specs.declared.replay.Stop.the-variants.{Ran, Refused as Stopped}
 use Rattle.schedule.specs.declared.replay.Replayed.{Replayed}
 use Rattle.schedule.specs.declared.cursor.Cursor.{Cursor}
@@ -76,6 +75,24 @@ module _ (m : Machine) (s : List ℕ) (k : ℕ) (h : k ≤ replayOf m s .run) wh
   -- every shorter beginning of whole events is accepted, and leads to the state that the replay went through
   pub beginning-runs : replayOf m (take (eventWidth * k) s) ≡ replayed (stateAt m s k) k Ran
   beginning-runs = by-end (subst (λ (n : ℕ). End m first n) all-run (end m first))
+
+-- ── the unread rest ──
+
+by-stop : (m : Machine) (s : List ℕ) (k : ℕ) (refusal : Refusal) → replayOf m s .stop ≡ Stopped refusal → End m s k → (k < length s / eventWidth) × (replyAt m s k ≡ Refused refusal)
+by-stop m s k refusal p (none-left h e) =
+    let ran : replayOf m s .stop ≡ Ran = ap (λ (r : Replayed). r .stop) e in
+    let z : _≡_ {A = ℕ} 0 1 = cc (p, ran) in
+    absurd (omega arith)
+by-stop m s k refusal p (refused other h r e) =
+    let stopped : replayOf m s .stop ≡ Stopped other = ap (λ (r : Replayed). r .stop) e in
+    let same : other ≡ refusal = cc (p, stopped) in
+    (h, r ∙ ap Refused same)
+
+-- where an event is refused, the rest begins with it
+pub rest-begins-refused : (m : Machine) (s : List ℕ) (refusal : Refusal) → replayOf m s .stop ≡ Stopped refusal → (drop (eventWidth * replayOf m s .run) s ≡ codeAt s (replayOf m s .run) ∷ threadAt s (replayOf m s .run) .0 ∷ drop (eventWidth * (replayOf m s .run + 1)) s) × (replyAt m s (replayOf m s .run) ≡ Refused refusal)
+rest-begins-refused m s refusal p =
+    let b = by-stop m s (replayOf m s .run) refusal p (end m s) in
+    (drop-event s (replayOf m s .run) (b .0), b .1)
 
 -- ── the cursor ──
 
