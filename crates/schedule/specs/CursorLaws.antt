@@ -12,13 +12,13 @@ use Rattle.state.specs.declared.answer.Reply.{Reply}
 use Rattle.state.specs.declared.answer.Reply.the-variants.{Accepted, Refused}
 use Rattle.schedule.specs.File.{eventWidth}
 use Rattle.schedule.specs.Replay.{codeAt, threadAt, eventAt}
-use Rattle.schedule.specs.Cursor.{reached, movedBy, movedOf}
+use Rattle.schedule.specs.Cursor.{reached, movedTo, movedBy, movedOf}
 use Rattle.schedule.specs.declared.cursor.Cursor.{Cursor}
 use Rattle.schedule.specs.declared.cursor.Seen.{Seen}
 use Rattle.schedule.specs.declared.cursor.Seen.the-variants.{Ended, Event}
 
 module _ (c : Cursor) (s : List ℕ) where
-  pub moved-ended : length s / eventWidth ≤ c .at → movedOf c s ≡ record { cursor = c; seen = Ended }
+  pub moved-ended : length s / eventWidth ≤ c .at → movedOf c s ≡ movedTo c Ended
   unfolding movedOf
   moved-ended h = simp (le-leb)
 
@@ -30,8 +30,8 @@ module _ (c : Cursor) (s : List ℕ) where
     unfolding movedOf
     by-outcome = simp (lt-leb) (ap (movedBy c s) (sym e))
 
-    pub moved-refused : (refusal : Refusal) → o .reply ≡ Refused refusal → movedOf c s ≡ record { cursor = c; seen = seen (o .reply) }
-    moved-refused refusal r = by-outcome ∙ ap (λ (x : Reply). record { cursor = reached c x (o .machine); seen = seen (o .reply) }) r
+    pub moved-refused : (refusal : Refusal) → o .reply ≡ Refused refusal → movedOf c s ≡ movedTo c (seen (o .reply))
+    moved-refused refusal r = by-outcome ∙ ap (λ (x : Reply). movedTo (reached c x (o .machine)) (seen (o .reply))) r
 
-    pub moved-accepted : (answer : Answer) (woken : Owner) → o .reply ≡ Accepted answer woken → movedOf c s ≡ record { cursor = record { machine = o .machine; at = c .at + 1 }; seen = seen (o .reply) }
-    moved-accepted answer woken r = by-outcome ∙ ap (λ (x : Reply). record { cursor = reached c x (o .machine); seen = seen (o .reply) }) r
+    pub moved-accepted : (answer : Answer) (woken : Owner) → o .reply ≡ Accepted answer woken → movedOf c s ≡ movedTo (record { machine = o .machine; at = c .at + 1 }) (seen (o .reply))
+    moved-accepted answer woken r = by-outcome ∙ ap (λ (x : Reply). movedTo (reached c x (o .machine)) (seen (o .reply))) r

@@ -11,6 +11,7 @@ use Rattle.state.specs.declared.answer.Reply.{Reply}
 use Rattle.state.specs.declared.answer.Reply.the-variants.{Accepted, Refused}
 use Rattle.lock.specs.Event.{eventOf}
 use Rattle.schedule.specs.File.{eventWidth}
+use Rattle.schedule.specs.declared.replay.Stop.{Stop}
 use Rattle.schedule.specs.declared.replay.Stop.the-variants.{Ran, Refused as Stopped}
 use Rattle.schedule.specs.declared.replay.Replayed.{Replayed}
 
@@ -24,20 +25,19 @@ threadAt s k = thread (getD s (eventWidth * k + 1) 0)
 abbrev pub eventAt : Machine → List ℕ → ℕ → Outcome
 eventAt m s k = eventOf m (codeAt s k) (threadAt s k)
 
--- nothing left to run
-abbrev pub ranOf : Machine → Replayed
-ranOf m = record { machine = m; run = 0; stop = Ran }
+abbrev pub stoppedOf : Machine → ℕ → Stop → Replayed
+stoppedOf m n stop = record { machine = m; run = n; stop = stop }
 
 -- as many events more before it
 abbrev pub after : ℕ → Replayed → Replayed
-after n r = record { machine = r .machine; run = n + r .run; stop = r .stop }
+after n r = stoppedOf (r .machine) (n + r .run) (r .stop)
 
 -- by an event's reply: refused there, on the machine before it; or one event run, and then the others
 abbrev pub goesOn : Machine → Reply → Replayed → Replayed
-goesOn m (Refused refusal) later = record { machine = m; run = 0; stop = Stopped refusal }
+goesOn m (Refused refusal) later = stoppedOf m 0 (Stopped refusal)
 goesOn m (Accepted answer woken) later = after 1 later
 
 unfoldable pub replayOf : Machine → List ℕ → Replayed
-replayOf m [] = ranOf m
-replayOf m (odd ∷ []) = ranOf m
+replayOf m [] = stoppedOf m 0 Ran
+replayOf m (odd ∷ []) = stoppedOf m 0 Ran
 replayOf m (code ∷ t ∷ s) = goesOn m (eventOf m code (thread t) .reply) (replayOf (eventOf m code (thread t) .machine) s)

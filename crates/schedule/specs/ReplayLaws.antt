@@ -15,19 +15,15 @@ use Rattle.state.specs.declared.answer.Reply.the-variants.{Accepted, Refused}
 use Rattle.word.specs.declared.number.Owner.{Owner}
 use Rattle.lock.specs.Event.{eventOf}
 use Rattle.schedule.specs.File.{eventWidth}
-use Rattle.schedule.specs.Replay.{codeAt, threadAt, eventAt, ranOf, after, goesOn, replayOf}
-use Rattle.schedule.specs.declared.replay.Stop.{Stop}
+use Rattle.schedule.specs.Replay.{codeAt, threadAt, eventAt, stoppedOf, after, goesOn, replayOf}
 use Rattle.schedule.specs.declared.replay.Stop.the-variants.{Ran, Refused as Stopped}
 use Rattle.schedule.specs.declared.replay.Replayed.{Replayed}
 
-abbrev pub replayed : Machine → ℕ → Stop → Replayed
-replayed m n stop = record { machine = m; run = n; stop = stop }
-
 pub after-zero : (r : Replayed) → after 0 r ≡ r
-after-zero r = let e : 0 + r .run ≡ r .run = omega arith in ap (λ (n : ℕ). replayed (r .machine) n (r .stop)) e
+after-zero r = let e : 0 + r .run ≡ r .run = omega arith in ap (λ (n : ℕ). stoppedOf (r .machine) n (r .stop)) e
 
 pub after-after : (n k : ℕ) (r : Replayed) → after n (after k r) ≡ after (n + k) r
-after-after n k r = let e : n + (k + r .run) ≡ n + k + r .run = omega arith in ap (λ (i : ℕ). replayed (r .machine) i (r .stop)) e
+after-after n k r = let e : n + (k + r .run) ≡ n + k + r .run = omega arith in ap (λ (i : ℕ). stoppedOf (r .machine) i (r .stop)) e
 
 -- an event's two bytes, and those after it
 pub drop-event : (s : List ℕ) (k : ℕ) → k < length s / eventWidth → drop (eventWidth * k) s ≡ getD s (eventWidth * k) 0 ∷ getD s (eventWidth * k + 1) 0 ∷ drop (eventWidth * (k + 1)) s
@@ -37,7 +33,7 @@ drop-event s k h =
     drop-cons s (eventWidth * k) 0 (omega arith) ∙ (ap (λ (l : List ℕ). getD s (eventWidth * k) 0 ∷ l) (drop-cons s (suc (eventWidth * k)) 0 (omega arith)) ∙ rw (e, f))
 
 -- no whole event left
-pub replay-end : (m : Machine) (l : List ℕ) → length l < eventWidth → replayOf m l ≡ ranOf m
+pub replay-end : (m : Machine) (l : List ℕ) → length l < eventWidth → replayOf m l ≡ stoppedOf m 0 Ran
 unfolding replayOf
 replay-end m [] h = refl
 replay-end m (x ∷ []) h = refl
@@ -52,18 +48,18 @@ module _ (m : Machine) (s : List ℕ) (k : ℕ) where
   replay-on h = ap (replayOf m) (drop-event s k h)
 
   -- after k events, none left
-  pub ended-here : length s / eventWidth ≤ k → after k here ≡ replayed m k Ran
-  ended-here h = ap (after k) (replay-end m (drop (eventWidth * k) s) (omega (arith, length-drop (eventWidth * k) s))) ∙ (let e : k + 0 ≡ k = omega arith in ap (λ (n : ℕ). replayed m n Ran) e)
+  pub ended-here : length s / eventWidth ≤ k → after k here ≡ stoppedOf m k Ran
+  ended-here h = ap (after k) (replay-end m (drop (eventWidth * k) s) (omega (arith, length-drop (eventWidth * k) s))) ∙ (let e : k + 0 ≡ k = omega arith in ap (λ (n : ℕ). stoppedOf m n Ran) e)
 
   module _ (o : Outcome) (h : k < length s / eventWidth) (e : o ≡ eventAt m s k) where
     by-outcome : here ≡ goesOn m (o .reply) (replayOf (o .machine) (drop (eventWidth * (k + 1)) s))
     by-outcome = replay-on h ∙ ap (λ (x : Outcome). goesOn m (x .reply) (replayOf (x .machine) (drop (eventWidth * (k + 1)) s))) (sym e)
 
     -- the k-th event is refused
-    pub refused-here : (refusal : Refusal) → o .reply ≡ Refused refusal → after k here ≡ replayed m k (Stopped refusal)
+    pub refused-here : (refusal : Refusal) → o .reply ≡ Refused refusal → after k here ≡ stoppedOf m k (Stopped refusal)
     refused-here refusal r =
         let z : k + 0 ≡ k = omega arith in
-        ap (after k) (by-outcome ∙ ap (λ (x : Reply). goesOn m x (replayOf (o .machine) (drop (eventWidth * (k + 1)) s))) r) ∙ ap (λ (n : ℕ). replayed m n (Stopped refusal)) z
+        ap (after k) (by-outcome ∙ ap (λ (x : Reply). goesOn m x (replayOf (o .machine) (drop (eventWidth * (k + 1)) s))) r) ∙ ap (λ (n : ℕ). stoppedOf m n (Stopped refusal)) z
 
     -- the k-th event is accepted
     pub accepted-here : (answer : Answer) (woken : Owner) → o .reply ≡ Accepted answer woken → after k here ≡ after (k + 1) (replayOf (o .machine) (drop (eventWidth * (k + 1)) s))
@@ -71,5 +67,5 @@ module _ (m : Machine) (s : List ℕ) (k : ℕ) where
         ap (after k) (by-outcome ∙ ap (λ (x : Reply). goesOn m x (replayOf (o .machine) (drop (eventWidth * (k + 1)) s))) r) ∙ after-after k 1 (replayOf (o .machine) (drop (eventWidth * (k + 1)) s))
 
 -- the outcome of an event on the bytes that were read
-pub event-read : (m : Machine) (s : List ℕ) (k : ℕ) (o : Outcome) (code : ℕ) (t : ThreadNumber) → code ≡ codeAt s k → t ≡ threadAt s k → o ≡ eventOf m code t → o ≡ eventAt m s k
-event-read m s k o code t p q e = e ∙ rw (p, q)
+pub event-read : (m : Machine) (s : List ℕ) (k : ℕ) {o : Outcome} {code : ℕ} {t : ThreadNumber} → code ≡ codeAt s k → t ≡ threadAt s k → o ≡ eventOf m code t → o ≡ eventAt m s k
+event-read m s k p q e = e ∙ rw (p, q)

@@ -11,8 +11,7 @@ use Rattle.state.specs.declared.answer.Refusal.{Refusal}
 use Rattle.state.specs.declared.answer.Reply.{Reply}
 use Rattle.state.specs.declared.answer.Reply.the-variants.{Accepted, Refused}
 use Rattle.schedule.specs.File.{eventWidth}
-use Rattle.schedule.specs.Replay.{codeAt, threadAt, eventAt, replayOf}
-use Rattle.schedule.specs.ReplayLaws.{replayed}
+use Rattle.schedule.specs.Replay.{codeAt, threadAt, eventAt, stoppedOf, replayOf}
 use Rattle.schedule.specs.declared.replay.Stop.{Stop}
 use Rattle.schedule.specs.declared.replay.Stop.the-variants.{Ran, Refused as Stopped}
 use Rattle.schedule.specs.declared.cursor.Seen.{Seen}
@@ -39,8 +38,8 @@ pub record Beginning (m : Machine) (s : List ℕ) (k : ℕ) : Type 0 where
 
 -- the replay stops after k events: there is no other, or that one is refused
 pub data End (m : Machine) (s : List ℕ) (k : ℕ) : Type 0 where
-  none-left : length s / eventWidth ≡ k → replayOf m s ≡ replayed (stateAt m s k) k Ran → End m s k
-  refused : (refusal : Refusal) → k < length s / eventWidth → replyAt m s k ≡ Refused refusal → replayOf m s ≡ replayed (stateAt m s k) k (Stopped refusal) → End m s k
+  none-left : length s / eventWidth ≡ k → replayOf m s ≡ stoppedOf (stateAt m s k) k Ran → End m s k
+  refused : (refusal : Refusal) → k < length s / eventWidth → replyAt m s k ≡ Refused refusal → replayOf m s ≡ stoppedOf (stateAt m s k) k (Stopped refusal) → End m s k
 
 -- what a cursor sees where the replay stopped
 abbrev pub seenAt : List ℕ → ℕ → Stop → Seen

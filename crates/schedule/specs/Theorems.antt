@@ -12,10 +12,10 @@ use Rattle.state.specs.declared.machine.Outcome.{Outcome}
 use Rattle.state.specs.declared.answer.Refusal.{Refusal}
 use Rattle.state.specs.declared.answer.Reply.the-variants.{Refused}
 use Rattle.schedule.specs.File.{eventWidth, checkedOf}
-use Rattle.schedule.specs.Replay.{codeAt, threadAt, eventAt, replayOf}
-use Rattle.schedule.specs.ReplayLaws.{replayed, drop-event}
+use Rattle.schedule.specs.Replay.{codeAt, threadAt, eventAt, stoppedOf, replayOf}
+use Rattle.schedule.specs.ReplayLaws.{drop-event}
 use Rattle.schedule.specs.Whole.{fileRefusedOf, fileReplayBy, fileReplayOf, fileRestBy, fileRestOf}
-use Rattle.schedule.specs.Cursor.{startOf, movedOf, cursorAfter}
+use Rattle.schedule.specs.Cursor.{startOf, movedTo, movedOf, cursorAfter}
 use Rattle.schedule.specs.CursorLaws.{moved-ended, moved-refused, moved-accepted}
 use Rattle.schedule.specs.Statements.{stateAt, replyAt, Accepts, Beginning, End, none-left, refused, seenAt}
 use Rattle.schedule.specs.Beginnings.{end, ran-accepted, longest}
@@ -68,12 +68,12 @@ module _ (m : Machine) (s : List ℕ) (k : ℕ) (h : k ≤ replayOf m s .run) wh
       let high = ran-accepted m first (replayOf m first .run) (omega arith) .there in
       omega (arith, first-length)
 
-  by-end : End m first k → replayOf m first ≡ replayed (stateAt m s k) k Ran
-  by-end (none-left l e) = e ∙ ap (λ (x : Machine). replayed x k Ran) (same-state k (omega arith))
+  by-end : End m first k → replayOf m first ≡ stoppedOf (stateAt m s k) k Ran
+  by-end (none-left l e) = e ∙ ap (λ (x : Machine). stoppedOf x k Ran) (same-state k (omega arith))
   by-end (refused refusal l r e) = absurd (omega (arith, first-length))
 
   -- every shorter beginning of whole events is accepted, and leads to the state that the replay went through
-  pub beginning-runs : replayOf m (take (eventWidth * k) s) ≡ replayed (stateAt m s k) k Ran
+  pub beginning-runs : replayOf m (take (eventWidth * k) s) ≡ stoppedOf (stateAt m s k) k Ran
   beginning-runs = by-end (subst (λ (n : ℕ). End m first n) all-run (end m first))
 
 -- ── the unread rest ──
@@ -113,12 +113,12 @@ module _ (m : Machine) (s : List ℕ) where
   pub cursor-follows : (k : ℕ) → k ≤ replayOf m s .run → cursorAfter k (startOf m) s ≡ record { machine = replayOf m (take (eventWidth * k) s) .machine; at = k }
   cursor-follows k h = goes k h ∙ ap (λ (r : Replayed). record { machine = r .machine; at = k }) (sym (beginning-runs m s k h))
 
-  stays : (k : ℕ) → End m s k → movedOf (standing m s k) s ≡ record { cursor = standing m s k; seen = seenAt s k (replayOf m s .stop) }
+  stays : (k : ℕ) → End m s k → movedOf (standing m s k) s ≡ movedTo (standing m s k) (seenAt s k (replayOf m s .stop))
   stays k (none-left h e) = moved-ended (standing m s k) s (omega arith) ∙ rw e
   stays k (refused refusal h r e) = moved-refused (standing m s k) s (eventAt (stateAt m s k) s k) h refl refusal r ∙ rw (r, e)
 
   -- where the replay stops, the cursor stops, with the same refusal
-  pub cursor-stops : movedOf (cursorAfter (replayOf m s .run) (startOf m) s) s ≡ record { cursor = cursorAfter (replayOf m s .run) (startOf m) s; seen = seenAt s (replayOf m s .run) (replayOf m s .stop) }
+  pub cursor-stops : movedOf (cursorAfter (replayOf m s .run) (startOf m) s) s ≡ movedTo (cursorAfter (replayOf m s .run) (startOf m) s) (seenAt s (replayOf m s .run) (replayOf m s .stop))
   cursor-stops = rw (goes (replayOf m s .run) (omega arith)) (stays (replayOf m s .run) (end m s))
 
 -- ── a refused file ──

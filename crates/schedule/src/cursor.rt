@@ -1,6 +1,6 @@
 // Event by event, by value: a cursor is the machine so far and how many events ran, so replay::rest(s, at) is unread.
 ghost use mathlib.Core.Path.{_≡_};
-ghost use Rattle.schedule.specs.Cursor.{startOf, movedOf};
+ghost use Rattle.schedule.specs.Cursor.{startOf, movedTo, movedOf};
 use crate::file::WIDTH;
 use crate::replay::code_at;
 use crate::replay::thread_at;
@@ -41,15 +41,21 @@ impl Cursor {
     }
 }
 
+fn moved_to(cursor: Cursor, seen: Seen) -> Moved
+    ensures { λ r. ⌜ r ≡ movedTo cursor seen ⌝ }
+{
+    Moved {
+        cursor: cursor,
+        seen: seen,
+    }
+}
+
 pub fn next(c: Cursor, s: &[u8]) -> Moved
     ensures { λ r. ⌜ r ≡ movedOf c (now (s .entry)) ⌝ }
 {
     let at = c.at;
     if s.len() / WIDTH <= at {
-        return Moved {
-            cursor: c,
-            seen: Seen::Ended,
-        };
+        return moved_to(c, Seen::Ended);
     }
     let code = code_at(s, at);
     let thread = thread_at(s, at);
@@ -60,19 +66,13 @@ pub fn next(c: Cursor, s: &[u8]) -> Moved
         thread: thread,
         reply: reply,
     };
-    if let Reply::Refused(_) = reply {
-        return Moved {
-            cursor: c,
-            seen: seen,
-        };
-    }
     let machine = o.machine;
     let on = Cursor {
         machine: machine,
         at: at + 1,
     };
-    Moved {
-        cursor: on,
-        seen: seen,
+    if let Reply::Refused(_) = reply {
+        return moved_to(c, seen);
     }
+    moved_to(on, seen)
 }

@@ -3,7 +3,7 @@ ghost use mathlib.Core.Path.{_≡_};
 ghost use Prim.Native.Nat.{_<_, _/_, _*_};
 ghost use lib.ListN.{length, drop};
 ghost use Rattle.schedule.specs.File.{eventWidth};
-ghost use Rattle.schedule.specs.Replay.{codeAt, threadAt, replayOf};
+ghost use Rattle.schedule.specs.Replay.{codeAt, threadAt, stoppedOf, replayOf};
 use crate::file::WIDTH;
 use crate::part::from;
 use lock::event::event;
@@ -41,6 +41,16 @@ pub(crate) fn code_at(s: &[u8], k: usize) -> u8
     s[at]
 }
 
+fn stopped(machine: Machine, run: usize, stop: Stop) -> Replayed
+    ensures { λ r. ⌜ r ≡ stoppedOf machine run stop ⌝ }
+{
+    Replayed {
+        machine: machine,
+        run: run,
+        stop: stop,
+    }
+}
+
 // Runs events from the start of s until one is refused or fewer than two bytes are left; an odd byte is not an event.
 pub fn replay(first: Machine, s: &[u8]) -> Replayed
     ensures { λ r. ⌜ r ≡ replayOf first (now (s .entry)) ⌝ }
@@ -51,21 +61,13 @@ pub fn replay(first: Machine, s: &[u8]) -> Replayed
         let o = event(m, code_at(s, n), thread_at(s, n));
         let reply = o.reply;
         if let Reply::Refused(refusal) = reply {
-            return Replayed {
-                machine: m,
-                run: n,
-                stop: Stop::Refused(refusal),
-            };
+            return stopped(m, n, Stop::Refused(refusal));
         }
         let next = o.machine;
         m = next;
         n = n + 1;
     }
-    Replayed {
-        machine: m,
-        run: n,
-        stop: Stop::Ran,
-    }
+    stopped(m, n, Stop::Ran)
 }
 
 // What is left of the caller's slice after so many events, the refused one included; past the end, the empty end.

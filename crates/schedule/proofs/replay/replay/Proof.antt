@@ -1,4 +1,4 @@
--- `schedule::replay::replay` meets its contract: each answer by the tests that led to it. Assumes nothing.
+-- `schedule::replay::replay` meets its contract: the loop keeps that the events run, and then the replay of the rest, are the replay of all. Assumes nothing.
 use Prim.Native.Nat.{_*_, _/_, _-_, _≤_}
 use mathlib.Core.Path.{_≡_, sym, _∙_}
 use native.Mathlib.Omega.{arith}
@@ -31,14 +31,17 @@ event-requires c κs = search needs
 enum-known-reply : tie.Need-enum-known-reply Inv-loop μ-loop
 enum-known-reply c = search needs
 
+stopped-requires : tie.Need-stopped-requires Inv-loop μ-loop
+stopped-requires c κs = search needs
+
 returns : tie.Need-returns Inv-loop μ-loop
 returns c =
-    let l = c .before .before .before .before .before .before .before .loop in
-    let s = c .before .before .before .before .before .before .before .before .before .args .s .now in
-    let o = c .before .before .before .event .result in
-    let t = c .before .reply .given in
-    let e = event-read (l .m) s (l .n) o (c .before .before .before .before .before .code-at .result) (c .before .before .before .before .thread-at .result) (c .before .before .before .before .before .code-at .ensures) (c .before .before .before .before .thread-at .ensures) (c .before .before .before .event .ensures) in
-    sym (refused-here (l .m) s (l .n) o (omega arith) e (t .0 .0) (t .1)) ∙ l .inv .1
+    let l = c .before .before .before .before .before .before .before .before .loop in
+    let s = c .before .before .before .before .before .before .before .before .before .before .args .s .now in
+    let o = c .before .before .before .before .event .result in
+    let t = c .before .before .reply .given in
+    let e = event-read (l .m) s (l .n) (c .before .before .before .before .before .before .code-at .ensures) (c .before .before .before .before .before .thread-at .ensures) (c .before .before .before .before .event .ensures) in
+    c .stopped .ensures ∙ (sym (refused-here (l .m) s (l .n) o (omega arith) e (t .0 .0) (t .1)) ∙ l .inv .1)
 
 enum-told : tie.Need-enum-told Inv-loop μ-loop
 enum-told c = search needs
@@ -55,14 +58,17 @@ loop-again c =
     let s = c .before .before .before .before .before .before .before .before .before .args .s .now in
     let o = c .before .before .before .event .result in
     let t = c .before .enum-told .given in
-    let e = event-read (l .m) s (l .n) o (c .before .before .before .before .before .code-at .result) (c .before .before .before .before .thread-at .result) (c .before .before .before .before .before .code-at .ensures) (c .before .before .before .before .thread-at .ensures) (c .before .before .before .event .ensures) in
+    let e = event-read (l .m) s (l .n) (c .before .before .before .before .before .code-at .ensures) (c .before .before .before .before .thread-at .ensures) (c .before .before .before .event .ensures) in
     (omega arith, sym (accepted-here (l .m) s (l .n) o (omega arith) e (t .0 .0) (t .0 .1 .0) (t .1)) ∙ l .inv .1)
+
+stopped-requires-2 : tie.Need-stopped-requires-2 Inv-loop μ-loop
+stopped-requires-2 c κs = search needs
 
 returns-2 : tie.Need-returns-2 Inv-loop μ-loop
 returns-2 c =
-    let l = c .before .loop in
-    let s = c .before .before .before .args .s .now in
-    sym (ended-here (l .m) s (l .n) (omega arith)) ∙ l .inv .1
+    let l = c .before .before .loop in
+    let s = c .before .before .before .before .args .s .now in
+    c .stopped2 .ensures ∙ (sym (ended-here (l .m) s (l .n) (omega arith)) ∙ l .inv .1)
 
 pub replay-spec : {M : Type 1} → statement M
 replay-spec =
@@ -75,9 +81,11 @@ replay-spec =
     thread-at-requires
     event-requires
     enum-known-reply
+    stopped-requires
     returns
     enum-told
     add-n
     loop-less
     loop-again
+    stopped-requires-2
     returns-2)
