@@ -1,5 +1,5 @@
--- The replay runs the longest accepted beginning, and a cursor goes through its states; what an accepted file is, and what a
--- refused one hands back. Assumes nothing.
+-- The replay runs the longest accepted beginning, its rest begins with the refused event, a cursor goes through its states,
+-- and a refused file runs nothing. Assumes nothing.
 use Prim.Native.Nat.{ℕ, zero, suc, _+_, _*_, _/_, _<_, _≤_}
 use mathlib.Core.List.{List, _∷_}
 use mathlib.Core.Path.{_≡_, refl, sym, ap, subst, _∙_}
@@ -50,14 +50,16 @@ module _ (m : Machine) (s : List ℕ) (k : ℕ) (h : k ≤ replayOf m s .run) wh
       let q : threadAt first i ≡ threadAt s i = ap thread (getD-take (eventWidth * k) s (eventWidth * i + 1) 0 (omega arith)) in
       rw (p, q)
 
+  same-outcome : (i : ℕ) → stateAt m first i ≡ stateAt m s i → i < k → eventAt (stateAt m first i) first i ≡ eventAt (stateAt m s i) s i
+  same-outcome i e j = ap (λ (x : Machine). eventAt x first i) e ∙ same-event (stateAt m s i) i j
+
   same-state : (i : ℕ) → i ≤ k → stateAt m first i ≡ stateAt m s i
   unfolding stateAt
   same-state zero j = refl
-  same-state (suc i) j =
-      ap (λ (o : Outcome). o .machine) (ap (λ (x : Machine). eventAt x first i) (same-state i (omega arith)) ∙ same-event (stateAt m s i) i (omega arith))
+  same-state (suc i) j = ap (λ (o : Outcome). o .machine) (same-outcome i (same-state i (omega arith)) (omega arith))
 
   same-reply : (i : ℕ) → i < k → replyAt m first i ≡ replyAt m s i
-  same-reply i j = ap (λ (o : Outcome). o .reply) (ap (λ (x : Machine). eventAt x first i) (same-state i (omega arith)) ∙ same-event (stateAt m s i) i j)
+  same-reply i j = ap (λ (o : Outcome). o .reply) (same-outcome i (same-state i (omega arith)) j)
 
   accepts : (i : ℕ) → i < k → Accepts m first i
   accepts i j = let a = ran-accepted m s k h .accepted i j in record { answer = a .answer; woken = a .woken; is = same-reply i j ∙ a .is }

@@ -7,7 +7,8 @@
 //     replay::replay(machine, s)     any machine, a bare run of events: until one is refused or none is left
 //     replay::rest(s, run)           the unread rest, the refused event included
 //     replay::unread(machine, s)     the rest that the replay leaves
-//     whole::replay_file(s)          both: a refused file runs nothing
+//     whole::replay_file(s)          check and replay: a refused file runs nothing
+//     whole::unread_of_file(s)       the rest that it leaves; of a refused file, all
 //     cursor::next(cursor, s)        event by event, through the same states
 pub mod cursor;
 pub mod file;

@@ -1,4 +1,4 @@
--- `schedule::whole::refused` meets its contract: each answer by the tests that led to it. Assumes nothing.
+-- `schedule::whole::refused` meets its contract: a fresh machine of one thread, from what `fresh` ensures. Assumes nothing.
 use borrow.Author.Needs.{needs}
 use Rattle.schedule.proofs.whole.refused.Statement.{statement}
 use Rattle.schedule.proofs.whole.refused.Tie as tie

@@ -1,4 +1,4 @@
--- `schedule::whole::replay_file` meets its contract: each answer by the tests that led to it. Assumes nothing.
+-- `schedule::whole::replay_file` meets its contract: by what `check` answers, and what the calls after it ensure. Assumes nothing.
 use borrow.Author.Needs.{needs}
 use mathlib.Core.Path.{sym}
 use Rattle.schedule.proofs.whole.replay_file.Statement.{statement}
