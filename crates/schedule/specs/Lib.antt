@@ -1,0 +1,11 @@
+pub mod File
+pub mod Replay
+pub mod ReplayLaws
+pub mod Whole
+pub mod Cursor
+pub mod CursorLaws
+pub mod Statements
+pub mod Beginnings
+pub mod Theorems
+pub mod Judged
+pub mod Determined
