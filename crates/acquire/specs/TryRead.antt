@@ -6,8 +6,8 @@ use Rattle.word.specs.declared.flags.Word.{Word}
 use Rattle.word.specs.declared.rules.ReadLocked.{ReadLocked}
 use Rattle.word.specs.declared.rules.ReadLocked.the-variants.{To, Refused}
 use Rattle.state.specs.Holding.{grantedRead}
-use Rattle.state.specs.View.{at, end, agreesOf, stays, writes}
-use Rattle.state.specs.declared.answer.Answer.the-variants.{Done, Yes, No}
+use Rattle.state.specs.View.{at, end, granted, agreesOf, stays, writes}
+use Rattle.state.specs.declared.answer.Answer.the-variants.{No}
 use Rattle.state.specs.declared.place.Place.the-variants.{TryReadCas, ContendLoad}
 use Rattle.state.specs.declared.view.View.{View}
 use Rattle.state.specs.declared.view.Next.{Next}
@@ -16,10 +16,6 @@ use Rattle.state.specs.declared.view.Stepped.{Stepped}
 -- read contends; try_read ends with no
 abbrev pub tryReadRefused : Bool → Next
 tryReadRefused blocking = pick blocking (at (ContendLoad false 0)) (end No)
-
--- read ends with done, a try that is granted with yes
-abbrev pub tryReadDone : Bool → Next
-tryReadDone blocking = pick blocking (end Done) (end Yes)
 
 abbrev pub tryReadBy : View → Bool → Word → ReadLocked → Stepped
 tryReadBy v blocking seen (To to) = stays v (at (TryReadCas blocking seen))
@@ -34,7 +30,7 @@ abbrev pub tryReadLoadOf : View → Bool → Stepped
 tryReadLoadOf v blocking = tryReadJudged v blocking (v .word)
 
 abbrev pub tryReadCasBy : View → Bool → ReadLocked → Stepped
-tryReadCasBy v blocking (To to) = writes v to (grantedRead (v .holding)) (tryReadDone blocking)
+tryReadCasBy v blocking (To to) = writes v to (grantedRead (v .holding)) (granted blocking)
 tryReadCasBy v blocking Refused = tryReadJudged v blocking (v .word)
 
 -- weak compare to read_lock; a failed one is judged again on the word it reports

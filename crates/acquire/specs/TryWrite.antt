@@ -3,8 +3,8 @@ use mathlib.Core.Bool.{Bool, true}
 use Rattle.word.specs.Base.{pick}
 use Rattle.word.specs.Flags.{locked, setLocked}
 use Rattle.state.specs.Holding.{grantedWrite}
-use Rattle.state.specs.View.{at, end, stays, writes}
-use Rattle.state.specs.declared.answer.Answer.the-variants.{Done, Yes, No}
+use Rattle.state.specs.View.{at, end, granted, stays, writes}
+use Rattle.state.specs.declared.answer.Answer.the-variants.{No}
 use Rattle.state.specs.declared.place.Place.the-variants.{ContendLoad}
 use Rattle.state.specs.declared.view.View.{View}
 use Rattle.state.specs.declared.view.Next.{Next}
@@ -14,13 +14,9 @@ use Rattle.state.specs.declared.view.Stepped.{Stepped}
 abbrev pub tryWriteRefused : Bool → Next
 tryWriteRefused blocking = pick blocking (at (ContendLoad true 0)) (end No)
 
--- write ends with done, a try that is granted with yes
-abbrev pub tryWriteDone : Bool → Next
-tryWriteDone blocking = pick blocking (end Done) (end Yes)
-
 -- LOCKED was set: refused, and the word is as it was; else it is set, and the lock granted
 abbrev pub tryWriteOrOf : View → Bool → Stepped
 tryWriteOrOf v blocking =
     pick (locked (v .word))
     (stays v (tryWriteRefused blocking))
-    (writes v (setLocked (v .word)) (grantedWrite (v .holding)) (tryWriteDone blocking))
+    (writes v (setLocked (v .word)) (grantedWrite (v .holding)) (granted blocking))

@@ -1,6 +1,6 @@
 // try_read, and the first attempt of read: load, then weak compare to read_lock, retried on the word reported.
 ghost use mathlib.Core.Path.{_≡_};
-ghost use Rattle.acquire.specs.TryRead.{tryReadRefused, tryReadJudged, tryReadLoadOf, tryReadCasOf, tryReadDone};
+ghost use Rattle.acquire.specs.TryRead.{tryReadRefused, tryReadJudged, tryReadLoadOf, tryReadCasOf};
 use state::Answer;
 use state::Next;
 use state::Place;
@@ -20,16 +20,6 @@ fn try_read_refused(blocking: bool) -> Next
         });
     }
     Next::end(Answer::No)
-}
-
-// What a granted attempt ends with.
-fn try_read_done(blocking: bool) -> Next
-    ensures { λ r. ⌜ r ≡ tryReadDone blocking ⌝ }
-{
-    if blocking {
-        return Next::end(Answer::Done);
-    }
-    Next::end(Answer::Yes)
 }
 
 fn try_read_judged(v: View, blocking: bool, seen: Word) -> Stepped
@@ -58,7 +48,7 @@ pub fn try_read_cas(v: View, blocking: bool, seen: Word) -> Stepped
         return match seen.read_lock() {
             ReadLocked::To(to) => {
                 let h = v.holding;
-                v.writes(to, h.granted_read(), try_read_done(blocking))
+                v.writes(to, h.granted_read(), Next::granted(blocking))
             }
             ReadLocked::Refused => try_read_judged(v, blocking, v.word),
         };

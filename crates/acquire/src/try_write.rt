@@ -1,6 +1,6 @@
 // try_write, and the first attempt of write: one fetch-or of LOCKED.
 ghost use mathlib.Core.Path.{_≡_};
-ghost use Rattle.acquire.specs.TryWrite.{tryWriteRefused, tryWriteDone, tryWriteOrOf};
+ghost use Rattle.acquire.specs.TryWrite.{tryWriteRefused, tryWriteOrOf};
 use state::Answer;
 use state::Next;
 use state::Place;
@@ -20,16 +20,6 @@ fn try_write_refused(blocking: bool) -> Next
     Next::end(Answer::No)
 }
 
-// What a granted attempt ends with.
-fn try_write_done(blocking: bool) -> Next
-    ensures { λ r. ⌜ r ≡ tryWriteDone blocking ⌝ }
-{
-    if blocking {
-        return Next::end(Answer::Done);
-    }
-    Next::end(Answer::Yes)
-}
-
 pub fn try_write_or(v: View, blocking: bool) -> Stepped
     ensures { λ r. ⌜ r ≡ tryWriteOrOf v blocking ⌝ }
 {
@@ -38,5 +28,5 @@ pub fn try_write_or(v: View, blocking: bool) -> Stepped
         return v.stays(try_write_refused(blocking));
     }
     let h = v.holding;
-    v.writes(w.set_locked(), h.granted_write(), try_write_done(blocking))
+    v.writes(w.set_locked(), h.granted_write(), Next::granted(blocking))
 }

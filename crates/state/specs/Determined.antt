@@ -8,7 +8,7 @@ use Rattle.state.specs.Holding.{readsOf, writesOf, grantedRead, grantedW
 use Rattle.state.specs.Access.{accessOf, touchedOf}
 use Rattle.state.specs.Answer.{refusalNumber, answerText}
 use Rattle.state.specs.Machine.{blankThread, goodCount, freshOf, refusedOf}
-use Rattle.state.specs.View.{at, end, afterQueue, walkFrom, agreesOf, stays, writes, links, subtracts, completes, parks}
+use Rattle.state.specs.View.{at, end, granted, afterQueue, walkFrom, agreesOf, stays, writes, links, subtracts, completes, parks}
 use Rattle.word.specs.declared.flags.Word.{Word}
 use Rattle.word.specs.declared.number.NodeNumber.{NodeNumber}
 use Rattle.word.specs.declared.number.ThreadNumber.{ThreadNumber}
@@ -98,6 +98,9 @@ at-determined place = determined (at place)
 
 pub end-determined : (a : Answer) (r s : Next) → r ≡ end a → s ≡ end a → r ≡ s
 end-determined a = determined (end a)
+
+pub granted-determined : (blocking : Bool) (r s : Next) → r ≡ granted blocking → s ≡ granted blocking → r ≡ s
+granted-determined blocking = determined (granted blocking)
 
 pub afterQueue-determined : (who : Who) (r s : Next) → r ≡ afterQueue who → s ≡ afterQueue who → r ≡ s
 afterQueue-determined who = determined (afterQueue who)

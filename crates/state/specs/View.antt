@@ -9,7 +9,7 @@ use Rattle.word.specs.declared.number.Owner.the-variants.{Nobody}
 use Rattle.state.specs.declared.node.Node.{Node}
 use Rattle.state.specs.declared.holding.Holding.{Holding}
 use Rattle.state.specs.declared.answer.Answer.{Answer}
-use Rattle.state.specs.declared.answer.Answer.the-variants.{Went, Done}
+use Rattle.state.specs.declared.answer.Answer.the-variants.{Went, Done, Yes}
 use Rattle.state.specs.declared.place.Who.{Who}
 use Rattle.state.specs.declared.place.Who.the-variants.{Waiter, Leaver}
 use Rattle.state.specs.declared.place.Walk.{Walk}
@@ -27,6 +27,10 @@ at p = record { place = p; answer = Went }
 -- the call ends
 abbrev pub end : Answer → Next
 end a = record { place = Idle; answer = a }
+
+-- a first attempt is granted: read and write end with done, a try with yes
+abbrev pub granted : Bool → Next
+granted blocking = pick blocking (end Done) (end Yes)
 
 -- unlock queue or complete all is over: a waiter loads completed, any other call is done
 abbrev pub afterQueue : Who → Next

@@ -1,6 +1,6 @@
 // What a step may look at, and what it did.
 ghost use mathlib.Core.Path.{_≡_};
-ghost use Rattle.state.specs.View.{agreesOf, at, end, afterQueue, walkFrom, changedOf, stays, writes, links, subtracts, completes, parks};
+ghost use Rattle.state.specs.View.{agreesOf, at, end, granted, afterQueue, walkFrom, changedOf, stays, writes, links, subtracts, completes, parks};
 use crate::answer::Answer;
 use crate::answer::Refusal;
 use crate::holding::Holding;
@@ -70,6 +70,16 @@ impl Next {
             place: Place::Idle,
             answer: answer,
         }
+    }
+
+    // A first attempt is granted: read and write are done, a try ends with yes.
+    pub fn granted(blocking: bool) -> Next
+        ensures { λ r. ⌜ r ≡ granted blocking ⌝ }
+    {
+        if blocking {
+            return Next::end(Answer::Done);
+        }
+        Next::end(Answer::Yes)
     }
 
     // unlock_queue or complete_all returns: a waiter goes on to wait, another call ends.

@@ -16,8 +16,8 @@ enum-known-to c = search needs
 granted-read-requires : tie.Need-granted-read-requires
 granted-read-requires c κs = search needs
 
-try-read-done-requires : tie.Need-try-read-done-requires
-try-read-done-requires c κs = search needs
+granted-requires : tie.Need-granted-requires
+granted-requires c κs = search needs
 
 writes-requires : tie.Need-writes-requires
 writes-requires c κs = search needs
@@ -29,7 +29,7 @@ try-read-judged-requires : tie.Need-try-read-judged-requires
 try-read-judged-requires c κs = search needs
 
 returns : tie.Need-returns
-returns c = let h1 = c .before .before .before .before .before .before .before .if1 .taken in simp (c .writes .ensures, c .before .try-read-done .ensures, c .before .before .granted-read .ensures, sym (c .before .before .before .before .before .before .read-lock .ensures), sym (c .before .before .before .before .before .before .before .before .agrees .ensures), c .before .before .before .before .to .given .1, h1)
+returns c = let h1 = c .before .before .before .before .before .before .before .if1 .taken in simp (c .writes .ensures, c .before .granted .ensures, c .before .before .granted-read .ensures, sym (c .before .before .before .before .before .before .read-lock .ensures), sym (c .before .before .before .before .before .before .before .before .agrees .ensures), c .before .before .before .before .to .given .1, h1)
 
 returns-2 : tie.Need-returns-2
 returns-2 c = let h1 = c .before .before .before .before .if1 .taken in simp (c .try-read-judged .ensures, sym (c .before .before .before .read-lock .ensures), sym (c .before .before .before .before .before .agrees .ensures), c .before .enum-told .given .1, h1)
@@ -48,7 +48,7 @@ try-read-cas-spec =
     read-lock-requires
     enum-known-to
     granted-read-requires
-    try-read-done-requires
+    granted-requires
     writes-requires
     enum-told
     try-read-judged-requires

@@ -22,14 +22,14 @@ set-locked-requires c κs = search needs
 granted-write-requires : tie.Need-granted-write-requires
 granted-write-requires c κs = search needs
 
-try-write-done-requires : tie.Need-try-write-done-requires
-try-write-done-requires c κs = search needs
+granted-requires : tie.Need-granted-requires
+granted-requires c κs = search needs
 
 writes-requires : tie.Need-writes-requires
 writes-requires c κs = search needs
 
 returns-2 : tie.Need-returns-2
-returns-2 c = let h1 = c .before .before .before .before .if1 .left in simp (c .writes .ensures, c .before .try-write-done .ensures, c .before .before .granted-write .ensures, c .before .before .before .set-locked .ensures, sym (c .before .before .before .before .before .locked .ensures), h1)
+returns-2 c = let h1 = c .before .before .before .before .if1 .left in simp (c .writes .ensures, c .before .granted .ensures, c .before .before .granted-write .ensures, c .before .before .before .set-locked .ensures, sym (c .before .before .before .before .before .locked .ensures), h1)
 
 pub try-write-or-spec : {M : Type 1} → statement M
 try-write-or-spec =
@@ -41,6 +41,6 @@ try-write-or-spec =
     returns
     set-locked-requires
     granted-write-requires
-    try-write-done-requires
+    granted-requires
     writes-requires
     returns-2)
