@@ -8,6 +8,7 @@ use mathlib.Core.Bool.{Bool, true, false, false≢true}
 use Prim.Native.Nat.{ℕ, suc, pred, _≤_, _<_}
 use native.Mathlib.Omega.{arith}
 use Rattle.word.specs.Base.{pick}
+use Rattle.queue.specs.Tests.{never}
 use Rattle.queue.specs.Updates.{upd, upd-same, upd-other, upd-cases, upd-twice, eq?}
 use Rattle.queue.specs.Queue.{Links, linkOf, Part, Live, Clean, Queue, Walk, Full, Agree, relog, setNx, setPv, setTl}
 use Rattle.queue.specs.Queue
@@ -59,9 +60,6 @@ Lonely s t = (u : ℕ) → u ≢ t → onQueue (s .role u) ≡ false
 -- nobody but t changes the queue
 abbrev pub Quiet : St → ℕ → Type 0
 Quiet s t = (u : ℕ) → u ≢ t → changing (s .role u) ≡ false
-
-no : {A : Type 0} {b : Bool} → b ≡ false → b ≡ true → A
-no e f = absurd (false≢true (sym e ∙ f))
 
 -- a store to node x
 abbrev pub Only : Links → Links → ℕ → Type 0
@@ -286,7 +284,7 @@ module _ (g : Ghost) (s : St) (v : Inv g s) (t : ℕ) where
     node-off u f = only (suc u) (λ e. waiting g (s .wait) (v .parts) j o (suc u) hj (v .free u f) (sym e))
 
     spared-on : (g′ : Ghost) → g′ .log ≡ g .log → (u : ℕ) → u ≢ t → suc u ≢ o → g′ .taken u ≡ g .taken u → (onQueue (s .role u) ≡ true → Still (queueOf g) (queueOf g′) (s .links) l′) → (changing (s .role u) ≡ true → KeepsClean (queueOf g) (queueOf g′) (s .links) l′) → (changing (s .role u) ≡ true → l′ .nx (g .log (g .lo)) ≡ s .links .nx (g .log (g .lo))) → Spared g g′ s l′ (s .wait) u
-    spared-on g′ lg u ne no et st cl be = record { taken = et; frame = record { taken = rw lg (taken-off u no); node = node-off u; still = st; clean = cl; below = λ c _. be c }; free = v .free u }
+    spared-on g′ lg u ne other et st cl be = record { taken = et; frame = record { taken = rw lg (taken-off u other); node = node-off u; still = st; clean = cl; below = λ c _. be c }; free = v .free u }
 
     -- t stores in what it has taken itself
     spared-off : o ≡ suc t → (u : ℕ) → u ≢ t → Spared g g s l′ (s .wait) u
@@ -313,8 +311,8 @@ module _ (g : Ghost) (s : St) (v : Inv g s) (t : ℕ) where
       main dl dh qt k w = step g (setPv (s .links) (g .log d) (g .log (suc d))) (s .wait) (walk k hd (g .log d)) (v .parts) (Queue.store-pv (queueOf g) (s .links) live (v .queue) d dl dh) w (λ f. absurd (false≢true f)) λ u ne.
           spared-on (setPv (s .links) (g .log d) (g .log (suc d))) d 0 (v .parts .queued d dl (omega arith)) (only-pv (s .links) (g .log d) (g .log (suc d))) g refl u ne (λ e. omega arith) refl
           (λ _. record { lo = refl; fl = refl; hi = omega arith; log = λ i a b. refl; back = λ i a b e. Queue.pv-right (queueOf g) (s .links) live (v .queue) d dl dh i a (omega arith) e })
-          (no (qt u ne))
-          (no (qt u ne))
+          (never (qt u ne))
+          (never (qt u ne))
 
       go : (k : Kind) → on k (queueOf g) (takenOf g t) .log h ≡ hd → on k (queueOf g) (takenOf g t) .fl ≤ d → Walk (on k (queueOf g) (takenOf g t)) (s .links) h (suc d) → Ground k (takenOf g t) (s .links) → Over k (on k (queueOf g) (takenOf g t)) (s .links) h → (public k ≡ true → Quiet s t) →
           Inv g (moved s t (setPv (s .links) (g .log d) (g .log (suc d))) (s .wait) (walk k hd (g .log d)))
@@ -356,7 +354,7 @@ module _ (g : Ghost) (s : St) (v : Inv g s) (t : ℕ) where
 
   -- nobody but the walkers that load it notices a tail
   tail-on : (l′ : Links) (h : ℕ) (z : ℕ) → l′ ≡ setTl (s .links) (g .log h) z → g .lo ≤ h → h < g .hi → Queue (queueOf g) l′ → (r : Role) → Know (queueOf g) (takenOf g t) l′ t r → filled r ≡ false → Inv g (moved s t l′ (s .wait) r)
-  tail-on l′ h z el a b q r k f = step g l′ (s .wait) r (v .parts) q k (no f) λ u ne.
+  tail-on l′ h z el a b q r k f = step g l′ (s .wait) r (v .parts) q k (never f) λ u ne.
       spared-on l′ h 0 (v .parts .queued h a b) (rw el (only-tl (s .links) (g .log h) z)) g refl u ne (λ e. omega arith) refl
       (λ _. record { lo = refl; fl = refl; hi = omega arith; log = λ i x y. refl; back = λ i x y e. rw el e })
       (λ _ i x c j y o. rw el (c j y o))
@@ -401,7 +399,7 @@ module _ (g : Ghost) (s : St) (v : Inv g s) (t : ℕ) where
       spared-on (setNx (s .links) (g .log (g .lo)) n) (g .lo) 0 hj (only-nx (s .links) (g .log (g .lo)) n) g refl u ne (λ z. omega arith) refl
       (λ _. record { lo = refl; fl = refl; hi = omega arith; log = λ i x y. refl; back = λ i x y z. z })
       (λ _ i x c. c)
-      (no (qt u ne)))
+      (never (qt u ne)))
     where
       w : HeadAt looks (queueOf g) (takenOf g t) (s .links) hd tail
       w = told (head looks hd tail) e
@@ -509,7 +507,7 @@ module _ (g : Ghost) (s : St) (v : Inv g s) (t : ℕ) where
       (rw (w .it .ish, w .isp) at (Queue.set-aside (queueOf g) (s .links) live (v .queue) h f (w .more) (w .it .over)))
       (rw (upd-same (g .taken) t (oldest g)) it)
       (λ x. absurd (false≢true x))
-      λ u ne. spared-on (setTl (s .links) hd prev) h 0 hj (rw (w .it .ish) (only-tl (s .links) hd prev)) (asided g t h) refl u ne (λ z. omega arith) (upd-other (g .taken) t (oldest g) u ne) (no (lone u ne)) (λ c. no (lone u ne) (changing-on (s .role u) c)) (λ c. no (lone u ne) (changing-on (s .role u) c)))
+      λ u ne. spared-on (setTl (s .links) hd prev) h 0 hj (rw (w .it .ish) (only-tl (s .links) hd prev)) (asided g t h) refl u ne (λ z. omega arith) (upd-other (g .taken) t (oldest g) u ne) (never (lone u ne)) (λ c. never (lone u ne) (changing-on (s .role u) c)) (λ c. never (lone u ne) (changing-on (s .role u) c)))
     where
       w : SplitAt (queueOf g) (takenOf g t) (s .links) hd tail prev
       w = told (split hd tail prev) e
@@ -544,7 +542,7 @@ module _ (g : Ghost) (s : St) (v : Inv g s) (t : ℕ) where
       (rw (a .ish, a .ist) at (Queue.restore (queueOf g) (s .links) live (v .queue) b (a .one) (omega (arith, a .base, a .top)) (a .nxt) (a .prv) (a .clean)))
       (rw (upd-same (g .taken) t (nothing b)) it)
       (λ x. absurd (false≢true x))
-      λ u ne. spared-on (setTl (s .links) hd tail) (g .fl) 0 (v .parts .queued (g .fl) (a .base) (a .top)) (rw (a .ish) (only-tl (s .links) hd tail)) (restored g t b) refl u ne (λ z. omega arith) (upd-other (g .taken) t (nothing b) u ne) (no (lone u ne)) (λ c. no (lone u ne) (changing-on (s .role u) c)) (λ c. no (lone u ne) (changing-on (s .role u) c))
+      λ u ne. spared-on (setTl (s .links) hd tail) (g .fl) 0 (v .parts .queued (g .fl) (a .base) (a .top)) (rw (a .ish) (only-tl (s .links) hd tail)) (restored g t b) refl u ne (λ z. omega arith) (upd-other (g .taken) t (nothing b) u ne) (never (lone u ne)) (λ c. never (lone u ne) (changing-on (s .role u) c)) (λ c. never (lone u ne) (changing-on (s .role u) c))
     where
       b : ℕ
       b = g .taken t .beg
@@ -575,9 +573,9 @@ module _ (g : Ghost) (s : St) (v : Inv g s) (t : ℕ) where
     frame = record {
       taken = agree-refl (takenOf g u);
       node = λ _. record { nx = refl; pv = refl; tl = refl };
-      still = no (lone u ne);
-      clean = λ c. no (lone u ne) (changing-on (s .role u) c);
-      below = λ c. no (lone u ne) (changing-on (s .role u) c);
+      still = never (lone u ne);
+      clean = λ c. never (lone u ne) (changing-on (s .role u) c);
+      below = λ c. never (lone u ne) (changing-on (s .role u) c);
     };
     free = v .free u;
   }
@@ -627,7 +625,7 @@ module _ (g : Ghost) (s : St) (v : Inv g s) (t : ℕ) where
       (rw is at (parts-complete g (s .wait) (v .parts) t some))
       (v .queue)
       (rw (upd-same (g .taken) t (rest g t)) k)
-      (no nf)
+      (never nf)
       λ u ne. record {
         taken = upd-other (g .taken) t (rest g t) u ne;
         frame = record {

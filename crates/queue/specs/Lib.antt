@@ -1,3 +1,4 @@
+pub mod Tests
 pub mod Updates
 pub mod Sums
 pub mod Queue

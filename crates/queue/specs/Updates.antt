@@ -37,6 +37,10 @@ module _ {A : Type 0} where
       go (inl e) = subst (λ (k : ℕ). P k (upd f i v k)) (sym e) (rw (upd-same f i v) new)
       go (inr h) = rw (upd-other f i v j h) (old j h)
 
+  -- the same value put back
+  pub upd-self : (f : ℕ → A) (i : ℕ) → upd f i (f i) ≡ f
+  upd-self f i = fun-ext λ j. upd-cases (λ k a. a ≡ f k) f i (f i) refl (λ k ne. refl) j
+
   pub upd-twice : (f : ℕ → A) (i : ℕ) (v w : A) → upd (upd f i v) i w ≡ upd f i w
   upd-twice f i v w = fun-ext λ j. go j (eq? j i)
     where

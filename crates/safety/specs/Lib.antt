@@ -1,0 +1,12 @@
+pub mod Table
+pub mod Invariant
+pub mod Told
+pub mod Beside
+pub mod Frames
+pub mod Kept
+pub mod Off
+pub mod Words
+pub mod Ends
+pub mod FirstTry
+pub mod Contend
+pub mod Register

@@ -1,0 +1,1 @@
+// Theorems only: every event sequence from a fresh machine.
