@@ -7,7 +7,7 @@ use mathlib.Core.Path.{_≡_, refl, ap, _∙_, subst}
 use native.Mathlib.Decide.{decLt}
 use native.Mathlib.Omega.{arith}
 use lib.Dec.{eqb}
-use Rattle.word.specs.Flags.{queued, queueLocked}
+use Rattle.word.specs.Flags.{locked, queued, queueLocked}
 use Rattle.state.specs.Holding.{readsOf, writesOf}
 use Rattle.state.specs.declared.machine.Thread.{Thread}
 use Rattle.state.specs.declared.place.Place.the-variants.{Idle}
@@ -112,3 +112,7 @@ module _ (n : ℕ) (s : Lock) (g : Ghost) (i : Inv n s g) where
   nobody-needs w0 l0 u e =
       let within : u < n = inside u (λ a. a .needsQueue) refl e in
       omega (arith, sum-le n (λ t. writesOf (s .th t .holding)) u within, sum-le n (λ t. leaver (s .th t)) u within, needs-some u e)
+
+  -- real readers keep LOCKED set
+  pub real-hands-off : Real n s → handsOff (s .word) ≡ true
+  real-hands-off r = rw (not-false (locked (s .word)) (λ e. omega (arith, r .some, i .count .unlocked (r .queue) e .reads)), r .plain)

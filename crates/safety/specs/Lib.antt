@@ -10,3 +10,16 @@ pub mod Ends
 pub mod FirstTry
 pub mod Contend
 pub mod Register
+pub mod Wait
+pub mod On
+pub mod Walks
+pub mod Owner
+pub mod Split
+pub mod Take
+pub mod Tokens
+pub mod Wake
+pub mod ReadUnlock
+pub mod Subtract
+pub mod Sole
+pub mod Release
+pub mod Downgrade
