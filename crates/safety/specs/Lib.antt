@@ -23,3 +23,8 @@ pub mod Subtract
 pub mod Sole
 pub mod Release
 pub mod Downgrade
+pub mod Fresh
+pub mod Steps
+pub mod Bridge
+pub mod Begins
+pub mod Events
