@@ -28,6 +28,7 @@ use Rattle.state.specs.declared.view.Mark.{Mark}
 use Rattle.acquire.specs.LockContended.{spinCount, byRead, byWrite, permittedOf, grantedOf, fillOf, contendBy, contendJudged, contendLoadOf, contendCasBy, contendCasOf}
 use Rattle.acquire.specs.declared.lock_contended.Permitted.{Permitted}
 use Rattle.acquire.specs.declared.lock_contended.Permitted.the-variants.{To, Refused}
+use Rattle.lock.specs.Effect.{elsewhere, standOf}
 use Rattle.queue.specs.Tests.{never}
 use Rattle.queue.specs.Updates.{upd, upd-same, upd-other, map-upd}
 use Rattle.queue.specs.Tickets.{Ghost, waiting}
@@ -36,6 +37,7 @@ use Rattle.queue.specs.Effects as Q
 use Rattle.safety.specs.Table.{off, free, about, Lock, aboutAt, linksOf, waitOf, roleOf, Free, leaver}
 use Rattle.safety.specs.Invariant.{readers, writers, leavers, Unqueued, empty, written, read, Real, Newest, queueOf, Inv}
 use Rattle.safety.specs.Frames.{moved, waits-as, view, stay}
+use Rattle.safety.specs.Moves.{Went, still, stood, contend-elsewhere}
 use Rattle.safety.specs.Kept.{lookAt, Kept, kept-still, placed, Goes}
 use Rattle.safety.specs.Off.{is-off, Down, off-down, hop, finish}
 use Rattle.safety.specs.Ends.{ended-read, ended-written}
@@ -52,10 +54,11 @@ refused-locked writer w r v l (written z h) e = readers-word w 0 z .locked
 refused-locked writer w r v l (read z some h) e = readers-word w r z .locked
 
 -- a thread that contends, its role put down
-pub record Contends (s : Lock) (g : Ghost) (t : ℕ) : Type 0 where
-  pub down : Down s g t
-  pub free : Free (s .th t .holding)
-  pub leaves : leaver (s .th t) ≡ 0
+pub record Contends (s : Lock) (g : Ghost) (me : ThreadNumber) : Type 0 where
+  pub down : Down s g (me .0)
+  pub free : Free (s .th (me .0) .holding)
+  pub leaves : leaver (s .th (me .0)) ≡ 0
+  pub unmoved : (p : Place) → standOf p ≡ elsewhere → Went me (s .th (me .0) .place) g p g
 
 -- the fill, to the links
 fill-links : (nd : ℕ → Node) (me : ThreadNumber) (writer : Bool) (w : Word) → linksOf (upd nd (suc (me .0)) (filledOf me writer w)) ≡ Q.fillLinks (linksOf nd) (suc (me .0)) (not (queued w)) (withoutFlags w .0)
@@ -69,11 +72,11 @@ fill-links nd me writer w = (λ j. record {
     own true = refl
     own false = omega arith
 
-module _ (n : ℕ) (s : Lock) (g : Ghost) (i : Inv n s g) (me : ThreadNumber) (tin : me .0 < n) (mark : Mark) (fails : Bool) (c : Contends s g (me .0)) where
+module _ (n : ℕ) (s : Lock) (g : Ghost) (i : Inv n s g) (me : ThreadNumber) (tin : me .0 < n) (mark : Mark) (fails : Bool) (c : Contends s g me) where
   unregistered : waitOf (s .th) (s .nd) (suc (me .0)) ≡ false
   unregistered = rw (c .down .registered)
 
-  pub fill : (writer : Bool) (reloads : ℕ) → pick (queued (s .word)) true (locked (s .word)) ≡ true → Kept n s (me .0) (suc (me .0)) (fillOf (lookAt s me (suc (me .0)) mark fails) writer reloads (s .word))
+  pub fill : (writer : Bool) (reloads : ℕ) → pick (queued (s .word)) true (locked (s .word)) ≡ true → Kept n s g me (suc (me .0)) (fillOf (lookAt s me (suc (me .0)) mark fails) writer reloads (s .word))
   fill writer reloads fits = (
     g,
     stay n s g (me .0) x nd′ i (record {
@@ -94,6 +97,7 @@ module _ (n : ℕ) (s : Lock) (g : Ghost) (i : Inv n s g) (me : ThreadNumber) (t
       contending = λ e. refl;
       called = λ e. never (c .down .registered) e;
     }),
+    c .unmoved (RegisterCas writer reloads (s .word)) (contend-elsewhere writer reloads (s .word) .2),
   )
     where
       x : Thread
@@ -134,39 +138,39 @@ module _ (n : ℕ) (s : Lock) (g : Ghost) (i : Inv n s g) (me : ThreadNumber) (t
       by ReadRefused f z = absurd (let bad : _≡_ {A = ℕ} 0 1 = cc in omega arith)
 
   module _ (writer : Bool) (reloads : ℕ) where
-    on-to : (q : Place) → about q ≡ off free false false true → Kept n s (me .0) (suc (me .0)) (stays (lookAt s me (suc (me .0)) mark fails) (at q))
-    on-to q told = kept-still n s (me .0) (suc (me .0)) _ _ g (hop n s g i (me .0) tin (c .down) q (rw told (is-off _ _ _ _)) (rw told (c .free)) (rw told (never refl)) (rw told (sym (c .leaves))) (λ _. rw told))
+    on-to : (q : Place) → about q ≡ off free false false true → standOf q ≡ elsewhere → Kept n s g me (suc (me .0)) (stays (lookAt s me (suc (me .0)) mark fails) (at q))
+    on-to q told away = kept-still n s g me (suc (me .0)) _ _ g (c .unmoved q away) (hop n s g i (me .0) tin (c .down) q (rw told (is-off _ _ _ _)) (rw told (c .free)) (rw told (never refl)) (rw told (sym (c .leaves))) (λ _. rw told))
 
-    pub contend : Kept n s (me .0) (suc (me .0)) (contendJudged (lookAt s me (suc (me .0)) mark fails) writer reloads (s .word))
+    pub contend : Kept n s g me (suc (me .0)) (contendJudged (lookAt s me (suc (me .0)) mark fails) writer reloads (s .word))
     contend = by (permittedOf writer (s .word)) refl
       where
-        fill-bare : permittedOf writer (s .word) ≡ Refused → queued (s .word) ≡ false → Kept n s (me .0) (suc (me .0)) (fillOf (lookAt s me (suc (me .0)) mark fails) writer reloads (s .word))
+        fill-bare : permittedOf writer (s .word) ≡ Refused → queued (s .word) ≡ false → Kept n s g me (suc (me .0)) (fillOf (lookAt s me (suc (me .0)) mark fails) writer reloads (s .word))
         fill-bare e q = fill writer reloads (rw q (refused-locked writer (s .word) (readers n s) (writers n s) (leavers n s) (i .count .bare q) e))
 
-        by : (r : Permitted) → permittedOf writer (s .word) ≡ r → Kept n s (me .0) (suc (me .0)) (contendBy (lookAt s me (suc (me .0)) mark fails) writer reloads (s .word) r)
-        by (To to) e = on-to (ContendCas writer reloads (s .word)) refl
-        by Refused e = pick-both (Kept n s (me .0) (suc (me .0))) (queued (s .word)) _ _
+        by : (r : Permitted) → permittedOf writer (s .word) ≡ r → Kept n s g me (suc (me .0)) (contendBy (lookAt s me (suc (me .0)) mark fails) writer reloads (s .word) r)
+        by (To to) e = on-to (ContendCas writer reloads (s .word)) refl (contend-elsewhere writer reloads (s .word) .1)
+        by Refused e = pick-both (Kept n s g me (suc (me .0))) (queued (s .word)) _ _
             (λ q. fill writer reloads (rw q))
-            (λ q. pick-both (Kept n s (me .0) (suc (me .0))) (ltb reloads spinCount) _ _ (λ _. on-to (ContendLoad writer (reloads + 1)) refl) (λ _. fill-bare e q))
+            (λ q. pick-both (Kept n s g me (suc (me .0))) (ltb reloads spinCount) _ _ (λ _. on-to (ContendLoad writer (reloads + 1)) refl (contend-elsewhere writer (reloads + 1) (s .word) .0)) (λ _. fill-bare e q))
 
 module _ (n : ℕ) (s : Lock) (g : Ghost) (i : Inv n s g) (me : ThreadNumber) (tin : me .0 < n) (mark : Mark) (fails : Bool) where
-  contends-off : (p : Place) → s .th (me .0) .place ≡ p → about p ≡ off free false false true → Contends s g (me .0)
-  contends-off p here told =
+  contends-off : (p : Place) → s .th (me .0) .place ≡ p → about p ≡ off free false false true → still p ≡ true → Contends s g me
+  contends-off p here told unmoved =
       let e : aboutAt s (me .0) ≡ off free false false true = ap about here ∙ told in
-      record { down = off-down n s g i (me .0) (rw e (is-off _ _ _ _)); free = rw e at (i .holding (me .0)); leaves = rw e }
+      record { down = off-down n s g i (me .0) (rw e (is-off _ _ _ _)); free = rw e at (i .holding (me .0)); leaves = rw e; unmoved = λ q _. stood me g _ p here unmoved q }
 
-  pub kept-contend-load : (writer : Bool) (reloads : ℕ) → s .th (me .0) .place ≡ ContendLoad writer reloads → Goes n s me mark fails (suc (me .0)) (λ v. contendLoadOf v writer reloads)
-  kept-contend-load writer reloads here = contend n s g i me tin mark fails (contends-off (ContendLoad writer reloads) here refl) writer reloads
+  pub kept-contend-load : (writer : Bool) (reloads : ℕ) → s .th (me .0) .place ≡ ContendLoad writer reloads → Goes n s g me mark fails (suc (me .0)) (λ v. contendLoadOf v writer reloads)
+  kept-contend-load writer reloads here = contend n s g i me tin mark fails (contends-off (ContendLoad writer reloads) here refl refl) writer reloads
 
-  pub kept-contend-cas : (writer : Bool) (reloads : ℕ) (seen : Word) → s .th (me .0) .place ≡ ContendCas writer reloads seen → Goes n s me mark fails (suc (me .0)) (λ v. contendCasOf v writer reloads seen)
-  kept-contend-cas writer reloads seen here = pick-both (Kept n s (me .0) (suc (me .0))) (agreesOf (lookAt s me (suc (me .0)) mark fails) seen) _ _ (λ e. by (permittedOf writer seen) (ap (permittedOf writer) (agreed (lookAt s me (suc (me .0)) mark fails) seen e))) (λ _. again)
+  pub kept-contend-cas : (writer : Bool) (reloads : ℕ) (seen : Word) → s .th (me .0) .place ≡ ContendCas writer reloads seen → Goes n s g me mark fails (suc (me .0)) (λ v. contendCasOf v writer reloads seen)
+  kept-contend-cas writer reloads seen here = pick-both (Kept n s g me (suc (me .0))) (agreesOf (lookAt s me (suc (me .0)) mark fails) seen) _ _ (λ e. by (permittedOf writer seen) (ap (permittedOf writer) (agreed (lookAt s me (suc (me .0)) mark fails) seen e))) (λ _. again)
     where
-      c : Contends s g (me .0)
-      c = contends-off (ContendCas writer reloads seen) here refl
+      c : Contends s g me
+      c = contends-off (ContendCas writer reloads seen) here refl refl
 
-      again : Kept n s (me .0) (suc (me .0)) (contendJudged (lookAt s me (suc (me .0)) mark fails) writer reloads (s .word))
+      again : Kept n s g me (suc (me .0)) (contendJudged (lookAt s me (suc (me .0)) mark fails) writer reloads (s .word))
       again = contend n s g i me tin mark fails c writer reloads
 
-      by : (r : Permitted) → permittedOf writer (s .word) ≡ r → Kept n s (me .0) (suc (me .0)) (contendCasBy (lookAt s me (suc (me .0)) mark fails) writer reloads r)
-      by (To to) e = kept-still n s (me .0) (suc (me .0)) _ _ g (grant n s g i me tin mark fails c writer to e)
+      by : (r : Permitted) → permittedOf writer (s .word) ≡ r → Kept n s g me (suc (me .0)) (contendCasBy (lookAt s me (suc (me .0)) mark fails) writer reloads r)
+      by (To to) e = kept-still n s g me (suc (me .0)) _ _ g (stood me g _ (ContendCas writer reloads seen) here refl _) (grant n s g i me tin mark fails c writer to e)
       by Refused e = again

@@ -31,6 +31,7 @@ use Rattle.safety.specs.Invariant.{readers, writers, leavers, Hold, read
 use Rattle.safety.specs.Told.{told}
 use Rattle.safety.specs.Beside.{inside, unowned, reading, needs-some}
 use Rattle.safety.specs.Frames.{moved}
+use Rattle.safety.specs.Moves.{stood, downgrade-takes, downgrade-ends, downgrade-fails}
 use Rattle.safety.specs.Kept.{lookAt, Kept, kept-still, placed, Goes}
 use Rattle.safety.specs.Off.{is-off, Down, off-down, hop, Ended, finish}
 use Rattle.safety.specs.Ends.{ended-bare}
@@ -148,27 +149,27 @@ module _ (n : ℕ) (s : Lock) (g : Ghost) (i : Inv n s g) (me : ThreadNumber) (t
       })
 
   -- the compare that set DOWNGRADED, or took the queue
-  succeeds : queued (s .word) ≡ true → (mark : Mark) (fails : Bool) (k : ℕ) → Kept n s (me .0) k (writesTo (lookAt s me k mark fails) (downgradedWord (s .word)) (downgradedTo (s .th (me .0) .holding)) (afterDowngrade (s .word)))
-  succeeds q mark fails k = by (queueLocked (s .word)) refl
+  succeeds : (seen : Word) → s .th (me .0) .place ≡ DowngradeSlowCas seen → queued (s .word) ≡ true → (mark : Mark) (fails : Bool) (k : ℕ) → Kept n s g me k (writesTo (lookAt s me k mark fails) (downgradedWord (s .word)) (downgradedTo (s .th (me .0) .holding)) (afterDowngrade (s .word)))
+  succeeds seen here q mark fails k = by (queueLocked (s .word)) refl
     where
-      by : (l : Bool) → queueLocked (s .word) ≡ l → Kept n s (me .0) k (writesTo (lookAt s me k mark fails) (pick l (setDowngraded (s .word)) (word (SINGLE + LOCKED))) (downgradedTo (s .th (me .0) .holding)) (pick l (end Done) (walkFrom Downgrade (s .word))))
-      by true l = kept-still n s (me .0) k _ _ g (finish n s g i (me .0) tin down _ _ (handed-over q l))
-      by false l = kept-still n s (me .0) k _ _ (took g (me .0)) (takes-all q l)
+      by : (l : Bool) → queueLocked (s .word) ≡ l → Kept n s g me k (writesTo (lookAt s me k mark fails) (pick l (setDowngraded (s .word)) (word (SINGLE + LOCKED))) (downgradedTo (s .th (me .0) .holding)) (pick l (end Done) (walkFrom Downgrade (s .word))))
+      by true l = kept-still n s g me k _ _ g (downgrade-ends me g _ seen here) (finish n s g i (me .0) tin down _ _ (handed-over q l))
+      by false l = kept-still n s g me k _ _ (took g (me .0)) (downgrade-takes me g _ seen here _ _ _ _ (record { none = rw is at (i .queue .know (me .0)); is = refl })) (takes-all q l)
 
 module _ (n : ℕ) (s : Lock) (g : Ghost) (i : Inv n s g) (me : ThreadNumber) (tin : me .0 < n) (mark : Mark) (fails : Bool) (k : ℕ) where
   -- on to the slow compare, with the word as it is
   slowly : (needsQueue : Bool) (is : aboutAt s (me .0) ≡ off writes false needsQueue false) → queued (s .word) ≡ true → Inv n (moved s (me .0) (s .word) (placed (s .th (me .0)) (DowngradeSlowCas (s .word))) (s .nd)) g
   slowly needsQueue is q = hop n s g i (me .0) tin (down n s g i me tin needsQueue is) (DowngradeSlowCas (s .word)) (is-off _ _ _ _) (holds n s g i me tin needsQueue is) (λ _. q) (rw is) (rw is (never refl))
 
-  pub kept-downgrade-cas : s .th (me .0) .place ≡ DowngradeCas → Goes n s me mark fails k (λ v. downgradeCasOf v)
-  kept-downgrade-cas here = pick-both (Kept n s (me .0) k) (eqb (s .word .0) LOCKED) _ _
-      (λ e. kept-still n s (me .0) k _ _ g (finish n s g i (me .0) tin _ _ _ (plainly n s g i me tin false (ap about here) (eqb-true (s .word .0) LOCKED e))))
-      (λ e. kept-still n s (me .0) k _ _ g (slowly false (ap about here) (not-false (queued (s .word)) (λ q. eqb-false (s .word .0) LOCKED e (sole-bare n s g i (some n s g i me tin false (ap about here)) q .0)))))
+  pub kept-downgrade-cas : s .th (me .0) .place ≡ DowngradeCas → Goes n s g me mark fails k (λ v. downgradeCasOf v)
+  kept-downgrade-cas here = pick-both (Kept n s g me k) (eqb (s .word .0) LOCKED) _ _
+      (λ e. kept-still n s g me k _ _ g (stood me g _ DowngradeCas here refl _) (finish n s g i (me .0) tin _ _ _ (plainly n s g i me tin false (ap about here) (eqb-true (s .word .0) LOCKED e))))
+      (λ e. kept-still n s g me k _ _ g (stood me g _ DowngradeCas here refl _) (slowly false (ap about here) (not-false (queued (s .word)) (λ q. eqb-false (s .word .0) LOCKED e (sole-bare n s g i (some n s g i me tin false (ap about here)) q .0)))))
 
-  pub kept-downgrade-slow-cas : (seen : Word) → s .th (me .0) .place ≡ DowngradeSlowCas seen → Goes n s me mark fails k (λ v. downgradeSlowCasOf v seen)
-  kept-downgrade-slow-cas seen here = pick-both (Kept n s (me .0) k) (agreesOf (lookAt s me k mark fails) seen) _ _
-      (λ e. subst (λ x. Kept n s (me .0) k (writesTo (lookAt s me k mark fails) (downgradedWord x) (downgradedTo (s .th (me .0) .holding)) (afterDowngrade x))) (agreed (lookAt s me k mark fails) seen e) (succeeds n s g i me tin true (ap about here) has-queue mark fails k))
-      (λ _. kept-still n s (me .0) k _ _ g (slowly true (ap about here) has-queue))
+  pub kept-downgrade-slow-cas : (seen : Word) → s .th (me .0) .place ≡ DowngradeSlowCas seen → Goes n s g me mark fails k (λ v. downgradeSlowCasOf v seen)
+  kept-downgrade-slow-cas seen here = pick-both (Kept n s g me k) (agreesOf (lookAt s me k mark fails) seen) _ _
+      (λ e. subst (λ x. Kept n s g me k (writesTo (lookAt s me k mark fails) (downgradedWord x) (downgradedTo (s .th (me .0) .holding)) (afterDowngrade x))) (agreed (lookAt s me k mark fails) seen e) (succeeds n s g i me tin true (ap about here) seen here has-queue mark fails k))
+      (λ _. kept-still n s g me k _ _ g (downgrade-fails me g _ seen (s .word) here) (slowly true (ap about here) has-queue))
     where
       has-queue : queued (s .word) ≡ true
       has-queue = i .needs (me .0) (ap (λ p. about p .needsQueue) here)

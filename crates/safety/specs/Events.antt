@@ -2,7 +2,7 @@
 use Prim.Native.Nat.{ℕ, suc, _+_, _≤_, _<_}
 use mathlib.Core.Bool.{Bool, true, false}
 use mathlib.Core.Logic.{_⊎_, inl, inr}
-use mathlib.Core.Path.{_≡_, refl, sym, _∙_, subst}
+use mathlib.Core.Path.{_≡_, refl, sym, ap, _∙_, subst}
 use native.Mathlib.Numerals.{add-one}
 use native.Mathlib.Omega.{arith}
 use lib.Dec.{leb, ltb}
@@ -13,6 +13,8 @@ use Rattle.word.specs.Cases.{pick-both, pick-no}
 use Rattle.word.specs.Number.{slotOf}
 use Rattle.word.specs.declared.flags.Word.{Word}
 use Rattle.word.specs.declared.number.NodeNumber.{NodeNumber}
+use Rattle.word.specs.declared.number.Owner.{Owner}
+use Rattle.word.specs.declared.number.Owner.the-variants.{Nobody, Thread as Somebody}
 use Rattle.word.specs.declared.number.Slot.{Slot}
 use Rattle.word.specs.declared.number.Slot.the-variants.{Outside, At}
 use Rattle.word.specs.declared.number.ThreadNumber.{ThreadNumber}
@@ -26,30 +28,36 @@ use Rattle.state.specs.declared.answer.Reply.the-variants.{Refused as RefusedBy
 use Rattle.state.specs.declared.answer.Verdict.{Verdict}
 use Rattle.state.specs.declared.answer.Verdict.the-variants.{Fine, Refused}
 use Rattle.state.specs.declared.machine.Machine.{Machine}
+use Rattle.state.specs.declared.machine.Thread.{Thread}
 use Rattle.state.specs.declared.machine.Outcome.{Outcome}
 use Rattle.state.specs.declared.place.Place.{Place}
 use Rattle.state.specs.declared.place.Place.the-variants.{Idle, WalkHead}
 use Rattle.state.specs.declared.place.Walk.{Walk}
+use Rattle.state.specs.declared.view.Change.{Change}
 use Rattle.state.specs.declared.view.Mark.the-variants.{Missing, Reader, Writer}
 use Rattle.state.specs.declared.view.Stepped.{Stepped}
 use Rattle.state.specs.declared.view.Stepped.the-variants.{To, Refused as Denied}
 use Rattle.lock.specs.Advance.{advanceOf}
 use Rattle.lock.specs.Begin.{isIdle, mayBegin, firstPlace, placedOf, beganOf, beginOf}
 use Rattle.lock.specs.Code.{codeOf}
+use Rattle.lock.specs.Effect.{effectOf}
 use Rattle.lock.specs.Event.{eventBy, eventOf}
-use Rattle.lock.specs.Landed.{storedOf, landedOf}
+use Rattle.lock.specs.Landed.{wokenOf, storedOf, landedOf}
 use Rattle.lock.specs.Laws.{slot-at, good-count}
 use Rattle.lock.specs.Step.{haltedOf, failingOf, markedOf, markBy, markOf, viewAt, touchingBy, stepBy, stepAt, stepOf}
 use Rattle.lock.specs.declared.code.Call.{Call}
 use Rattle.lock.specs.declared.code.Code.{Code}
 use Rattle.lock.specs.declared.code.Code.the-variants.{Begin, Step, Fail, Unknown}
 use Rattle.promises.specs.Places.{idle-is}
+use Rattle.promises.specs.Theorems.{refused-has-no-effect}
 use Rattle.promises.specs.Statements.{Sized}
 use Rattle.promises.specs.Stored.{woken-count, woken-nodes, woken-long}
 use Rattle.queue.specs.Tests.{never}
+use Rattle.queue.specs.Updates.{upd, upd-same, upd-cases}
 use Rattle.queue.specs.Tickets.{Ghost}
 use Rattle.safety.specs.Invariant.{Inv}
-use Rattle.safety.specs.Kept.{Kept, Goes}
+use Rattle.safety.specs.Moves.{Moved, Went, stood}
+use Rattle.safety.specs.Kept.{wokenIn, Kept, Goes}
 use Rattle.safety.specs.Steps.{Waiting, touches, slot-waiting, slot-marked, kept-at}
 use Rattle.safety.specs.Begins.{begins}
 use Rattle.safety.specs.Bridge.{lockOf, thread-stored, change-stored}
@@ -61,17 +69,18 @@ pub record Ok (m : Machine) : Type 0 where
   pub ghost : Ghost
   pub inv : Inv (m .count) (lockOf m) ghost
 
--- so has the machine after an event, and the reply is not 8
-pub record Safe (o : Outcome) : Type 0 where
+-- so has the machine after an event of thread me, the tickets g having moved by its effect alone; and the reply is not 8
+pub record Safe (m : Machine) (g : Ghost) (me : ThreadNumber) (o : Outcome) : Type 0 where
   pub ok : Ok (o .machine)
+  pub moved : Moved (effectOf me m (o .machine) .queue) g (me .0) (ok .ghost)
   pub not-eight : o .reply ≡ RefusedBy Damaged → ⊥
 
 -- a refusal other than 8
 abbrev Other : Refusal → Type 0
 Other r = r ≡ Damaged → ⊥
 
-pub refused-safe : (m : Machine) → Ok m → (r : Refusal) → Other r → Safe (refusedOf m r)
-refused-safe m ok r other = record { ok = ok; not-eight = λ e. other (cc e) }
+refused-safe : (m : Machine) (ok : Ok m) (me : ThreadNumber) (r : Refusal) → Other r → Safe m (ok .ghost) me (refusedOf m r)
+refused-safe m ok me r other = record { ok = ok; moved = rw (refused-has-no-effect m me .1) refl; not-eight = λ e. other (cc e) }
 
 -- ── a step ──
 
@@ -100,8 +109,19 @@ module _ (m : Machine) (ok : Ok m) (me : ThreadNumber) (tin : me .0 < m .count) 
   few : m .count ≤ threadLimit
   few = good-count (m .count) (ok .good) .1
 
+  -- where the thread stands then
+  place-stored : (j : ℕ) → j < threadLimit → (c : Change) → threadAt (wokenOf (storedOf m (me .0) j c) (c .woken)) (me .0) .place ≡ c .thread .place
+  place-stored j l c = ap (λ s. s .th (me .0) .place) (change-stored m (me .0) j c (ok .sized) (omega (arith, few)) l) ∙ by (c .woken)
+    where
+      own : upd (threadAt m) (me .0) (c .thread) (me .0) .place ≡ c .thread .place
+      own = ap (λ x. x .place) (upd-same (threadAt m) (me .0) (c .thread))
+
+      by : (w : Owner) → wokenIn (upd (threadAt m) (me .0) (c .thread)) w (me .0) .place ≡ c .thread .place
+      by Nobody = own
+      by (Somebody u) = pick-both (λ (th : ℕ → Thread). th (me .0) .place ≡ c .thread .place) (ltb (u .0) threadLimit) _ _ (λ _. upd-cases (λ j x. x .place ≡ upd (threadAt m) (me .0) (c .thread) j .place) (upd (threadAt m) (me .0) (c .thread)) (u .0) _ refl (λ j ne. refl) (me .0) ∙ own) (λ _. own)
+
   -- a rule that keeps the invariant, stored
-  landed-safe : (j : ℕ) → j < threadLimit → (st : Stepped) → Kept (m .count) (lockOf m) (me .0) (suc j) st → Safe (landedOf m (me .0) j st)
+  landed-safe : (j : ℕ) → j < threadLimit → (st : Stepped) → Kept (m .count) (lockOf m) (ok .ghost) me (suc j) st → Safe m (ok .ghost) me (landedOf m (me .0) j st)
   landed-safe j l (To c) kept = record {
     ok = record {
       good = rw (woken-count (storedOf m (me .0) j c) (c .woken)) (ok .good);
@@ -112,6 +132,7 @@ module _ (m : Machine) (ok : Ok m) (me : ThreadNumber) (tin : me .0 < m .count) 
       ghost = kept .0;
       inv = rw (woken-count (storedOf m (me .0) j c) (c .woken), change-stored m (me .0) j c (ok .sized) (omega (arith, few)) l) (kept .1);
     };
+    moved = subst (λ p. Went me (threadAt m (me .0) .place) (ok .ghost) p (kept .0)) (sym (place-stored j l c)) (kept .2);
     not-eight = λ e. let bad : _≡_ {A = ℕ} 0 1 = cc in omega arith;
   }
   landed-safe j l (Denied r) kept = absurd kept
@@ -140,39 +161,39 @@ module _ (m : Machine) (ok : Ok m) (me : ThreadNumber) (tin : me .0 < m .count) 
         found : (j : ℕ) × (slotOf tail (m .count) ≡ At j) → markOf m tail ≡ Missing → ⊥
         found x = subst (λ (z : Slot). markBy m z ≡ Missing → ⊥) (sym (x .1)) (mark (nodeAt m (x .0) .writer))
 
-    touching-safe : haltedOf (accessOf me p .kind) (threadAt m (me .0) .token) fails ≡ Fine → Safe (touchingBy m me fails p (slotOf (touchedOf (accessOf me p) me) (m .count)))
+    touching-safe : haltedOf (accessOf me p .kind) (threadAt m (me .0) .token) fails ≡ Fine → Safe m (ok .ghost) me (touchingBy m me fails p (slotOf (touchedOf (accessOf me p) me) (m .count)))
     touching-safe fine = by (slotOf (touchedOf (accessOf me p) me) (m .count)) refl
       where
-        by : (z : Slot) → slotOf (touchedOf (accessOf me p) me) (m .count) ≡ z → Safe (touchingBy m me fails p z)
+        by : (z : Slot) → slotOf (touchedOf (accessOf me p) me) (m .count) ≡ z → Safe m (ok .ghost) me (touchingBy m me fails p z)
         by Outside e = absurd (has-slot e)
         by (At j) e =
             let x : (touchedOf (accessOf me p) me .0 ≡ j + 1) × (j < m .count) = slot-at (touchedOf (accessOf me p) me) (m .count) j e in
             landed-safe j (omega (arith, few)) (advanceOf (viewAt m me j fails p) p)
-            (subst (λ k. Goes (m .count) (lockOf m) me (markOf m (markedOf p)) fails k (λ v. advanceOf v p)) (x .0 ∙ add-one j)
+            (subst (λ k. Goes (m .count) (lockOf m) (ok .ghost) me (markOf m (markedOf p)) fails k (λ v. advanceOf v p)) (x .0 ∙ add-one j)
             (kept-at (m .count) few (lockOf m) (ok .ghost) (ok .inv) me tin (markOf m (markedOf p)) fails p here (threadAt m (me .0) .token) fine marked))
 
-    step-at-safe : Safe (stepAt m me fails p)
+    step-at-safe : Safe m (ok .ghost) me (stepAt m me fails p)
     step-at-safe = by (haltedOf (accessOf me p .kind) (threadAt m (me .0) .token) fails) refl
       where
-        by : (v : Verdict) → haltedOf (accessOf me p .kind) (threadAt m (me .0) .token) fails ≡ v → Safe (stepBy m me fails p v)
-        by (Refused r) e = refused-safe m ok r (halted-other (accessOf me p .kind) (threadAt m (me .0) .token) fails r e)
+        by : (v : Verdict) → haltedOf (accessOf me p .kind) (threadAt m (me .0) .token) fails ≡ v → Safe m (ok .ghost) me (stepBy m me fails p v)
+        by (Refused r) e = refused-safe m ok me r (halted-other (accessOf me p .kind) (threadAt m (me .0) .token) fails r e)
         by Fine e = touching-safe e
 
-  step-safe : Safe (stepOf m me fails)
+  step-safe : Safe m (ok .ghost) me (stepOf m me fails)
   unfolding stepOf
   step-safe = step-at-safe (threadAt m (me .0) .place) refl
 
 -- ── a begin ──
 
-begin-safe : (m : Machine) → Ok m → (me : ThreadNumber) → me .0 < m .count → (call : Call) → Safe (beginOf m (me .0) call)
-begin-safe m ok me tin call = pick-both Safe (isIdle (threadAt m (me .0) .place)) _ _
-    (λ idle. pick-both Safe (mayBegin call (threadAt m (me .0) .holding)) _ _ (λ may. began (idle-is (threadAt m (me .0) .place) idle) may) (λ _. refused-safe m ok WrongHolding (λ e. let bad : _≡_ {A = ℕ} 0 1 = cc in omega arith)))
-    (λ _. refused-safe m ok InsideCall (λ e. let bad : _≡_ {A = ℕ} 0 1 = cc in omega arith))
+begin-safe : (m : Machine) (ok : Ok m) (me : ThreadNumber) → me .0 < m .count → (call : Call) → Safe m (ok .ghost) me (beginOf m (me .0) call)
+begin-safe m ok me tin call = pick-both (Safe m (ok .ghost) me) (isIdle (threadAt m (me .0) .place)) _ _
+    (λ idle. pick-both (Safe m (ok .ghost) me) (mayBegin call (threadAt m (me .0) .holding)) _ _ (λ may. began (idle-is (threadAt m (me .0) .place) idle) may) (λ _. refused-safe m ok me WrongHolding (λ e. let bad : _≡_ {A = ℕ} 0 1 = cc in omega arith)))
+    (λ _. refused-safe m ok me InsideCall (λ e. let bad : _≡_ {A = ℕ} 0 1 = cc in omega arith))
   where
     within : me .0 < length (m .threads)
     within = omega (arith, good-count (m .count) (ok .good) .1, ok .sized .threads)
 
-    began : threadAt m (me .0) .place ≡ Idle → mayBegin call (threadAt m (me .0) .holding) ≡ true → Safe (beganOf m (me .0) call)
+    began : threadAt m (me .0) .place ≡ Idle → mayBegin call (threadAt m (me .0) .holding) ≡ true → Safe m (ok .ghost) me (beganOf m (me .0) call)
     began idle may = record {
       ok = record {
         good = ok .good;
@@ -180,6 +201,7 @@ begin-safe m ok me tin call = pick-both Safe (isIdle (threadAt m (me .0) .place)
         ghost = ok .ghost;
         inv = rw (thread-stored m (me .0) (placedOf (threadAt m (me .0)) (firstPlace call)) within) (begins (m .count) (lockOf m) (ok .ghost) (ok .inv) (me .0) tin idle call may);
       };
+      moved = stood me (ok .ghost) (threadAt m (me .0) .place) Idle idle refl _;
       not-eight = λ e. let bad : _≡_ {A = ℕ} 0 1 = cc in omega arith;
     }
 
@@ -189,15 +211,15 @@ module _ (m : Machine) (ok : Ok m) (me : ThreadNumber) where
   below : leb (m .count) (me .0) ≡ false → me .0 < m .count
   below e = leb-false (m .count) (me .0) e
 
-  no-thread : Safe (refusedOf m NoThread)
-  no-thread = refused-safe m ok NoThread (λ e. let bad : _≡_ {A = ℕ} 0 1 = cc in omega arith)
+  no-thread : Safe m (ok .ghost) me (refusedOf m NoThread)
+  no-thread = refused-safe m ok me NoThread (λ e. let bad : _≡_ {A = ℕ} 0 1 = cc in omega arith)
 
-  by-code : (c : Code) → Safe (eventBy m c me)
-  by-code Unknown = refused-safe m ok UnknownCode (λ e. let bad : _≡_ {A = ℕ} 0 1 = cc in omega arith)
-  by-code (Begin call) = pick-both Safe (leb (m .count) (me .0)) _ _ (λ _. no-thread) (λ e. begin-safe m ok me (below e) call)
-  by-code Step = pick-both Safe (leb (m .count) (me .0)) _ _ (λ _. no-thread) (λ e. step-safe m ok me (below e) false)
-  by-code Fail = pick-both Safe (leb (m .count) (me .0)) _ _ (λ _. no-thread) (λ e. step-safe m ok me (below e) true)
+  by-code : (c : Code) → Safe m (ok .ghost) me (eventBy m c me)
+  by-code Unknown = refused-safe m ok me UnknownCode (λ e. let bad : _≡_ {A = ℕ} 0 1 = cc in omega arith)
+  by-code (Begin call) = pick-both (Safe m (ok .ghost) me) (leb (m .count) (me .0)) _ _ (λ _. no-thread) (λ e. begin-safe m ok me (below e) call)
+  by-code Step = pick-both (Safe m (ok .ghost) me) (leb (m .count) (me .0)) _ _ (λ _. no-thread) (λ e. step-safe m ok me (below e) false)
+  by-code Fail = pick-both (Safe m (ok .ghost) me) (leb (m .count) (me .0)) _ _ (λ _. no-thread) (λ e. step-safe m ok me (below e) true)
 
-  pub event-safe : (code : ℕ) → Safe (eventOf m code me)
+  pub event-safe : (code : ℕ) → Safe m (ok .ghost) me (eventOf m code me)
   unfolding eventOf
-  event-safe code = pick-both Safe (goodCount (m .count)) _ _ (λ _. by-code (codeOf code)) (λ e. never e (ok .good))
+  event-safe code = pick-both (Safe m (ok .ghost) me) (goodCount (m .count)) _ _ (λ _. by-code (codeOf code)) (λ e. never e (ok .good))

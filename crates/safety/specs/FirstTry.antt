@@ -21,6 +21,7 @@ use Rattle.queue.specs.Tickets.{Ghost}
 use Rattle.safety.specs.Table.{free, off, about, Lock, aboutAt, Free, Allowed, leaver}
 use Rattle.safety.specs.Invariant.{Inv}
 use Rattle.safety.specs.Frames.{moved}
+use Rattle.safety.specs.Moves.{still, stood}
 use Rattle.safety.specs.Kept.{lookAt, Kept, kept-still, placed, Goes}
 use Rattle.safety.specs.Off.{Off, is-off, Down, off-down, hop, finish}
 use Rattle.safety.specs.Ends.{ended-read, ended-written}
@@ -28,7 +29,7 @@ use Rattle.safety.specs.Words.{agreed}
 
 module _ (n : ℕ) (s : Lock) (g : Ghost) (i : Inv n s g) (me : ThreadNumber) (tin : me .0 < n) (mark : Mark) (fails : Bool) (k : ℕ) where
   -- a thread that stands at a first attempt
-  module _ (p : Place) (here : s .th (me .0) .place ≡ p) (first : about p ≡ off free false false false) where
+  module _ (p : Place) (here : s .th (me .0) .place ≡ p) (first : about p ≡ off free false false false) (unmoved : still p ≡ true) where
     told : aboutAt s (me .0) ≡ off free false false false
     told = ap about here ∙ first
 
@@ -44,31 +45,31 @@ module _ (n : ℕ) (s : Lock) (g : Ghost) (i : Inv n s g) (me : ThreadNumber) (t
     on-to : (q : Place) → Off (about q) → Allowed (about q .may) (s .th (me .0) .holding) → about q .needsQueue ≡ false → about q .leaves ≡ false → Inv n (moved s (me .0) (s .word) (placed (s .th (me .0)) q) (s .nd)) g
     on-to q o a needs leaves = hop n s g i (me .0) tin is-first q o a (never needs) (rw (leaves, told)) (rw told (never refl))
 
-    judged : (blocking : Bool) (r : ReadLocked) → Kept n s (me .0) k (tryReadBy (lookAt s me k mark fails) blocking (s .word) r)
-    judged blocking (To to) = kept-still n s (me .0) k _ _ g (on-to (TryReadCas blocking (s .word)) (is-off _ _ _ _) nothing refl refl)
-    judged true Refused = kept-still n s (me .0) k _ _ g (on-to (ContendLoad false 0) (is-off _ _ _ _) nothing refl refl)
-    judged false Refused = kept-still n s (me .0) k _ _ g (on-to Idle (is-off _ _ _ _) tt refl refl)
+    judged : (blocking : Bool) (r : ReadLocked) → Kept n s g me k (tryReadBy (lookAt s me k mark fails) blocking (s .word) r)
+    judged blocking (To to) = kept-still n s g me k _ _ g (stood me g _ p here unmoved _) (on-to (TryReadCas blocking (s .word)) (is-off _ _ _ _) nothing refl refl)
+    judged true Refused = kept-still n s g me k _ _ g (stood me g _ p here unmoved _) (on-to (ContendLoad false 0) (is-off _ _ _ _) nothing refl refl)
+    judged false Refused = kept-still n s g me k _ _ g (stood me g _ p here unmoved _) (on-to Idle (is-off _ _ _ _) tt refl refl)
 
-  pub kept-try-read-load : (blocking : Bool) → s .th (me .0) .place ≡ TryReadLoad blocking → Goes n s me mark fails k (λ v. tryReadLoadOf v blocking)
-  kept-try-read-load blocking here = judged (TryReadLoad blocking) here refl blocking (readLockOf (s .word))
+  pub kept-try-read-load : (blocking : Bool) → s .th (me .0) .place ≡ TryReadLoad blocking → Goes n s g me mark fails k (λ v. tryReadLoadOf v blocking)
+  kept-try-read-load blocking here = judged (TryReadLoad blocking) here refl refl blocking (readLockOf (s .word))
 
-  at-end : (blocking : Bool) (w : Word) (h : Holding) → Inv n (moved s (me .0) w (record { place = Idle; token = s .th (me .0) .token; holding = h }) (s .nd)) g → Kept n s (me .0) k (writes (lookAt s me k mark fails) w h (granted blocking))
-  at-end true w h j = kept-still n s (me .0) k _ _ g j
-  at-end false w h j = kept-still n s (me .0) k _ _ g j
+  at-end : (p : Place) → s .th (me .0) .place ≡ p → still p ≡ true → (blocking : Bool) (w : Word) (h : Holding) → Inv n (moved s (me .0) w (record { place = Idle; token = s .th (me .0) .token; holding = h }) (s .nd)) g → Kept n s g me k (writes (lookAt s me k mark fails) w h (granted blocking))
+  at-end p here unmoved true w h j = kept-still n s g me k _ _ g (stood me g _ p here unmoved _) j
+  at-end p here unmoved false w h j = kept-still n s g me k _ _ g (stood me g _ p here unmoved _) j
 
-  pub kept-try-read-cas : (blocking : Bool) (seen : Word) → s .th (me .0) .place ≡ TryReadCas blocking seen → Goes n s me mark fails k (λ v. tryReadCasOf v blocking seen)
-  kept-try-read-cas blocking seen here = pick-both (Kept n s (me .0) k) (agreesOf (lookAt s me k mark fails) seen) _ _ (λ e. by (agreed (lookAt s me k mark fails) seen e) (readLockOf seen) refl) (λ _. again)
+  pub kept-try-read-cas : (blocking : Bool) (seen : Word) → s .th (me .0) .place ≡ TryReadCas blocking seen → Goes n s g me mark fails k (λ v. tryReadCasOf v blocking seen)
+  kept-try-read-cas blocking seen here = pick-both (Kept n s g me k) (agreesOf (lookAt s me k mark fails) seen) _ _ (λ e. by (agreed (lookAt s me k mark fails) seen e) (readLockOf seen) refl) (λ _. again)
     where
-      again : Kept n s (me .0) k (tryReadJudged (lookAt s me k mark fails) blocking (s .word))
-      again = judged (TryReadCas blocking seen) here refl blocking (readLockOf (s .word))
+      again : Kept n s g me k (tryReadJudged (lookAt s me k mark fails) blocking (s .word))
+      again = judged (TryReadCas blocking seen) here refl refl blocking (readLockOf (s .word))
 
-      by : s .word ≡ seen → (r : ReadLocked) → readLockOf seen ≡ r → Kept n s (me .0) k (tryReadCasBy (lookAt s me k mark fails) blocking r)
-      by same (To to) e = at-end blocking to _ (finish n s g i (me .0) tin _ to _ (ended-read n s g i (me .0) tin (is-first (TryReadCas blocking seen) here refl) (nothing (TryReadCas blocking seen) here refl) (no-leaver (TryReadCas blocking seen) here refl) to (ap readLockOf same ∙ e)))
+      by : s .word ≡ seen → (r : ReadLocked) → readLockOf seen ≡ r → Kept n s g me k (tryReadCasBy (lookAt s me k mark fails) blocking r)
+      by same (To to) e = at-end (TryReadCas blocking seen) here refl blocking to _ (finish n s g i (me .0) tin _ to _ (ended-read n s g i (me .0) tin (is-first (TryReadCas blocking seen) here refl refl) (nothing (TryReadCas blocking seen) here refl refl) (no-leaver (TryReadCas blocking seen) here refl refl) to (ap readLockOf same ∙ e)))
       by same Refused e = again
 
-  pub kept-try-write-or : (blocking : Bool) → s .th (me .0) .place ≡ TryWriteOr blocking → Goes n s me mark fails k (λ v. tryWriteOrOf v blocking)
-  kept-try-write-or blocking here = pick-both (Kept n s (me .0) k) (locked (s .word)) _ _ (λ e. held blocking) (λ e. at-end blocking _ _ (finish n s g i (me .0) tin _ _ _ (ended-written n s g i (me .0) tin (is-first (TryWriteOr blocking) here refl) (nothing (TryWriteOr blocking) here refl) (no-leaver (TryWriteOr blocking) here refl) e)))
+  pub kept-try-write-or : (blocking : Bool) → s .th (me .0) .place ≡ TryWriteOr blocking → Goes n s g me mark fails k (λ v. tryWriteOrOf v blocking)
+  kept-try-write-or blocking here = pick-both (Kept n s g me k) (locked (s .word)) _ _ (λ e. held blocking) (λ e. at-end (TryWriteOr blocking) here refl blocking _ _ (finish n s g i (me .0) tin _ _ _ (ended-written n s g i (me .0) tin (is-first (TryWriteOr blocking) here refl refl) (nothing (TryWriteOr blocking) here refl refl) (no-leaver (TryWriteOr blocking) here refl refl) e)))
     where
-      held : (b : Bool) → Kept n s (me .0) k (stays (lookAt s me k mark fails) (tryWriteRefused b))
-      held true = kept-still n s (me .0) k _ _ g (on-to (TryWriteOr blocking) here refl (ContendLoad true 0) (is-off _ _ _ _) (nothing (TryWriteOr blocking) here refl) refl refl)
-      held false = kept-still n s (me .0) k _ _ g (on-to (TryWriteOr blocking) here refl Idle (is-off _ _ _ _) tt refl refl)
+      held : (b : Bool) → Kept n s g me k (stays (lookAt s me k mark fails) (tryWriteRefused b))
+      held true = kept-still n s g me k _ _ g (stood me g _ (TryWriteOr blocking) here refl _) (on-to (TryWriteOr blocking) here refl refl (ContendLoad true 0) (is-off _ _ _ _) (nothing (TryWriteOr blocking) here refl refl) refl refl)
+      held false = kept-still n s g me k _ _ g (stood me g _ (TryWriteOr blocking) here refl _) (on-to (TryWriteOr blocking) here refl refl Idle (is-off _ _ _ _) tt refl refl)

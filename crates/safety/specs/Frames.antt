@@ -80,6 +80,7 @@ module _ (n : ℕ) (s : Lock) (g g′ : Ghost) (t : ℕ) (w : Word) (x : Thread)
     owners = omega (arith, summed s t x nd n (c .inside) (λ y. weight (about (y .place) .owner)), i .owners, c .owner);
     holding = upd-cases (λ u y. Allowed (about (y .place) .may) (y .holding)) (s .th) t x (c .may) (λ u ne. i .holding u);
     outside = λ u l. rw (upd-other (s .th) t x u (λ e. omega (arith, c .inside))) (i .outside u l);
+    unheld = λ u l. rw (upd-other (s .th) t x u (λ e. omega (arith, c .inside))) (i .unheld u l);
     count = c .count (readers n (moved s t w x nd)) (writers n (moved s t w x nd)) (leavers n (moved s t w x nd)) (summed s t x nd n (c .inside) (λ y. readsOf (y .holding))) (summed s t x nd n (c .inside) (λ y. writesOf (y .holding))) (summed s t x nd n (c .inside) leaver);
     needs = upd-cases (λ u y. about (y .place) .needsQueue ≡ true → queued w ≡ true) (s .th) t x (c .needs) (c .needs-all);
     plain = upd-cases (λ u y. about (y .place) .reader ≡ true → downgraded w ≡ false) (s .th) t x (c .plain) (c .plain-all);

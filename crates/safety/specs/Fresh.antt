@@ -29,6 +29,7 @@ inv-fresh n = record {
   owners = zeros;
   holding = λ t. tt;
   outside = λ t l. refl;
+  unheld = λ t l. record { reads = refl; writes = refl };
   count = record {
     bare = λ e. empty refl (record { reads = zeros; writes = zeros; leaves = zeros });
     unlocked = never refl;

@@ -12,7 +12,7 @@ use Rattle.queue.specs.Sums.{sum}
 use Rattle.queue.specs.Tickets.{Ghost}
 use Rattle.queue.specs.Roles.{filled}
 use Rattle.queue.specs.Effects as Q
-use Rattle.safety.specs.Table.{handsOff, Lock, aboutAt, linksOf, waitOf, roleOf, Allowed, weight, leaver}
+use Rattle.safety.specs.Table.{handsOff, Lock, aboutAt, linksOf, waitOf, roleOf, Free, Allowed, weight, leaver}
 
 -- ── holders ──
 
@@ -87,6 +87,7 @@ pub record Inv (n : ℕ) (s : Lock) (g : Ghost) : Type 0 where
   -- 3: holding fits the place; nobody is beyond the count
   pub holding : (t : ℕ) → Allowed (aboutAt s t .may) (s .th t .holding)
   pub outside : (t : ℕ) → n ≤ t → s .th t .place ≡ Idle
+  pub unheld : (t : ℕ) → n ≤ t → Free (s .th t .holding)
   pub count : Count (s .word) (readers n s) (writers n s) (leavers n s)
   -- 5a, 5b
   pub needs : (t : ℕ) → aboutAt s t .needsQueue ≡ true → queued (s .word) ≡ true

@@ -3,6 +3,7 @@ pub mod Invariant
 pub mod Told
 pub mod Beside
 pub mod Frames
+pub mod Moves
 pub mod Kept
 pub mod Off
 pub mod Words

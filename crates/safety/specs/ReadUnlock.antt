@@ -30,12 +30,13 @@ use Rattle.queue.specs.Effects as Q
 use Rattle.safety.specs.Table.{off, reads, about, Lock, aboutAt, linksOf, waitOf, roleOf, Reads, leaver}
 use Rattle.safety.specs.Invariant.{readers, writers, leavers, Hold, Unqueued, empty, written, read, Newest, queueOf, Inv}
 use Rattle.safety.specs.Frames.{moved, waits-as, view, stay}
+use Rattle.safety.specs.Moves.{still, stood}
 use Rattle.safety.specs.Kept.{lookAt, Kept, kept-still, placed, Goes}
 use Rattle.safety.specs.Off.{is-off, Down, off-down, hop, Ended, finish}
 use Rattle.safety.specs.Ends.{ended-bare}
 use Rattle.safety.specs.Words.{Plain, agreed, word-is, readers-word, fewer-word}
 
-module _ (n : ℕ) (s : Lock) (g : Ghost) (i : Inv n s g) (me : ThreadNumber) (tin : me .0 < n) (mark : Mark) (fails : Bool) (k : ℕ) (p : Place) (here : s .th (me .0) .place ≡ p) (told : about p ≡ off reads false false false) where
+module _ (n : ℕ) (s : Lock) (g : Ghost) (i : Inv n s g) (me : ThreadNumber) (tin : me .0 < n) (mark : Mark) (fails : Bool) (k : ℕ) (p : Place) (here : s .th (me .0) .place ≡ p) (told : about p ≡ off reads false false false) (unmoved : still p ≡ true) where
   is : aboutAt s (me .0) ≡ off reads false false false
   is = ap about here ∙ told
 
@@ -92,18 +93,18 @@ module _ (n : ℕ) (s : Lock) (g : Ghost) (i : Inv n s g) (me : ThreadNumber) (t
       begun : Q.Inv g (Q.moved (queueOf s) (me .0) (linksOf (s .nd)) (waitOf (s .th) (s .nd)) (walk looks (toNode (s .word) .0) (toNode (s .word) .0)))
       begun = rw Q.moved-twice at (Q.begin g (Q.moved (queueOf s) (me .0) (linksOf (s .nd)) (waitOf (s .th) (s .nd)) none) (down .role) (me .0) looks refl (toNode (s .word) .0) (v .ticket) (upd-same (roleOf (s .th)) (me .0) none) (v .last) (v .some) (v .node))
 
-  judged : Kept n s (me .0) k (readUnlockJudged (lookAt s me k mark fails) (s .word))
+  judged : Kept n s g me k (readUnlockJudged (lookAt s me k mark fails) (s .word))
   judged = by (queued (s .word)) (downgraded (s .word)) (ltb (s .word .0) (SINGLE + LOCKED)) refl refl refl
     where
       on : Inv n (moved s (me .0) (s .word) (placed (s .th (me .0)) (ReadUnlockCas (s .word))) (s .nd)) g
       on = hop n s g i (me .0) tin down (ReadUnlockCas (s .word)) (is-off _ _ _ _) holds (never refl) (sym left) (rw is (never refl))
 
       by : (q d b : Bool) → queued (s .word) ≡ q → downgraded (s .word) ≡ d → ltb (s .word .0) (SINGLE + LOCKED) ≡ b →
-          Kept n s (me .0) k (readUnlockBy (lookAt s me k mark fails) (s .word) (pick q (pick d (To (clearLocked (clearDowngraded (s .word)))) Contended) (pick b Refused (To (fewer (s .word))))))
-      by true true b q d e = kept-still n s (me .0) k _ _ g on
-      by true false b q d e = kept-still n s (me .0) k _ _ g (walks q d)
+          Kept n s g me k (readUnlockBy (lookAt s me k mark fails) (s .word) (pick q (pick d (To (clearLocked (clearDowngraded (s .word)))) Contended) (pick b Refused (To (fewer (s .word))))))
+      by true true b q d e = kept-still n s g me k _ _ g (stood me g _ p here unmoved _) on
+      by true false b q d e = kept-still n s g me k _ _ g (stood me g _ p here unmoved _) (walks q d)
       by false d′ true q d e = absurd (enough q e)
-      by false d′ false q d e = kept-still n s (me .0) k _ _ g on
+      by false d′ false q d e = kept-still n s g me k _ _ g (stood me g _ p here unmoved _) on
 
   -- ── the compare ──
 
@@ -156,21 +157,21 @@ module _ (n : ℕ) (s : Lock) (g : Ghost) (i : Inv n s g) (me : ThreadNumber) (t
       counts r v l er ev el zero e = empty (made 0 e .0 refl) (record { reads = omega arith; writes = ev; leaves = el })
       counts r v l er ev el (suc m) e = let z : r ≡ suc m = omega arith in read (rw z (made (suc m) e .1 (omega arith))) (omega arith) (record { reads = refl; writes = ev; leaves = el })
 
-  taken : Kept n s (me .0) k (readUnlockCasBy (lookAt s me k mark fails) (readUnlockOf (s .word)))
+  taken : Kept n s g me k (readUnlockCasBy (lookAt s me k mark fails) (readUnlockOf (s .word)))
   taken = by (queued (s .word)) (downgraded (s .word)) (ltb (s .word .0) (SINGLE + LOCKED)) refl refl refl
     where
       by : (q d b : Bool) → queued (s .word) ≡ q → downgraded (s .word) ≡ d → ltb (s .word .0) (SINGLE + LOCKED) ≡ b →
-          Kept n s (me .0) k (readUnlockCasBy (lookAt s me k mark fails) (pick q (pick d (To (clearLocked (clearDowngraded (s .word)))) Contended) (pick b Refused (To (fewer (s .word))))))
-      by true true b q d e = kept-still n s (me .0) k _ _ g (finish n s g i (me .0) tin down _ _ (retracted q d))
+          Kept n s g me k (readUnlockCasBy (lookAt s me k mark fails) (pick q (pick d (To (clearLocked (clearDowngraded (s .word)))) Contended) (pick b Refused (To (fewer (s .word))))))
+      by true true b q d e = kept-still n s g me k _ _ g (stood me g _ p here unmoved _) (finish n s g i (me .0) tin down _ _ (retracted q d))
       by true false b q d e = judged
       by false d′ true q d e = judged
-      by false d′ false q d e = kept-still n s (me .0) k _ _ g (finish n s g i (me .0) tin down _ _ (left-word q))
+      by false d′ false q d e = kept-still n s g me k _ _ g (stood me g _ p here unmoved _) (finish n s g i (me .0) tin down _ _ (left-word q))
 
 module _ (n : ℕ) (s : Lock) (g : Ghost) (i : Inv n s g) (me : ThreadNumber) (tin : me .0 < n) (mark : Mark) (fails : Bool) (k : ℕ) where
-  pub kept-read-unlock-load : s .th (me .0) .place ≡ ReadUnlockLoad → Goes n s me mark fails k (λ v. readUnlockLoadOf v)
-  kept-read-unlock-load here = judged n s g i me tin mark fails k ReadUnlockLoad here refl
+  pub kept-read-unlock-load : s .th (me .0) .place ≡ ReadUnlockLoad → Goes n s g me mark fails k (λ v. readUnlockLoadOf v)
+  kept-read-unlock-load here = judged n s g i me tin mark fails k ReadUnlockLoad here refl refl
 
-  pub kept-read-unlock-cas : (seen : Word) → s .th (me .0) .place ≡ ReadUnlockCas seen → Goes n s me mark fails k (λ v. readUnlockCasOf v seen)
-  kept-read-unlock-cas seen here = pick-both (Kept n s (me .0) k) (agreesOf (lookAt s me k mark fails) seen) _ _
-      (λ e. subst (λ x. Kept n s (me .0) k (readUnlockCasBy (lookAt s me k mark fails) (readUnlockOf x))) (agreed (lookAt s me k mark fails) seen e) (taken n s g i me tin mark fails k (ReadUnlockCas seen) here refl))
-      (λ _. judged n s g i me tin mark fails k (ReadUnlockCas seen) here refl)
+  pub kept-read-unlock-cas : (seen : Word) → s .th (me .0) .place ≡ ReadUnlockCas seen → Goes n s g me mark fails k (λ v. readUnlockCasOf v seen)
+  kept-read-unlock-cas seen here = pick-both (Kept n s g me k) (agreesOf (lookAt s me k mark fails) seen) _ _
+      (λ e. subst (λ x. Kept n s g me k (readUnlockCasBy (lookAt s me k mark fails) (readUnlockOf x))) (agreed (lookAt s me k mark fails) seen e) (taken n s g i me tin mark fails k (ReadUnlockCas seen) here refl refl))
+      (λ _. judged n s g i me tin mark fails k (ReadUnlockCas seen) here refl refl)

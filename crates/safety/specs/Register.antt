@@ -27,6 +27,7 @@ use Rattle.safety.specs.Table.{handsOff, lookKind, About, filling, about
 use Rattle.safety.specs.Invariant.{readers, writers, leavers, Hold, Unqueued, empty, written, read, Locked, by-writer, by-readers, Count, Real, Newest, queueOf, Inv}
 use Rattle.safety.specs.Beside.{unowned}
 use Rattle.safety.specs.Frames.{moved, waits-as, view, summed, land}
+use Rattle.safety.specs.Moves.{registers-waits, registers-walks, unregistered}
 use Rattle.safety.specs.Kept.{lookAt, Kept, kept-still, placed, Goes}
 use Rattle.safety.specs.Contend.{Contends, contend}
 use Rattle.safety.specs.Words.{agreed, word-is}
@@ -211,7 +212,7 @@ module _ (n : ℕ) (s : Lock) (g : Ghost) (i : Inv n s g) (me : ThreadNumber) (t
 
 module _ (n : ℕ) (s : Lock) (g : Ghost) (i : Inv n s g) (me : ThreadNumber) (tin : me .0 < n) (mark : Mark) (fails : Bool) (writer : Bool) (reloads : ℕ) where
   -- a registration that failed leaves the node filled, and nobody's
-  unready : (seen : Word) → s .th (me .0) .place ≡ RegisterCas writer reloads seen → Contends s g (me .0)
+  unready : (seen : Word) → s .th (me .0) .place ≡ RegisterCas writer reloads seen → Contends s g me
   unready seen here =
       let told : aboutAt s (me .0) ≡ filling seen = ap about here in
       record {
@@ -222,20 +223,21 @@ module _ (n : ℕ) (s : Lock) (g : Ghost) (i : Inv n s g) (me : ThreadNumber) (t
         };
         free = rw told at (i .holding (me .0));
         leaves = rw told;
+        unmoved = unregistered me g _ writer reloads seen here;
       }
 
-  succeeds : s .th (me .0) .place ≡ RegisterCas writer reloads (s .word) → Kept n s (me .0) (suc (me .0)) (writes (lookAt s me (suc (me .0)) mark fails) (registeredOf (s .word) me) (s .th (me .0) .holding) (afterRegister writer (s .word) (registeredOf (s .word) me)))
+  succeeds : s .th (me .0) .place ≡ RegisterCas writer reloads (s .word) → Kept n s g me (suc (me .0)) (writes (lookAt s me (suc (me .0)) mark fails) (registeredOf (s .word) me) (s .th (me .0) .holding) (afterRegister writer (s .word) (registeredOf (s .word) me)))
   succeeds here = by (queued (s .word)) (queueLocked (s .word)) refl refl
     where
-      by : (q l : Bool) → queued (s .word) ≡ q → queueLocked (s .word) ≡ l → Kept n s (me .0) (suc (me .0)) (writes (lookAt s me (suc (me .0)) mark fails) (registeredOf (s .word) me) (s .th (me .0) .holding) (pick q (pick l (at (CompletedLoad writer)) (walkFrom (Queue (Waiter writer)) (registeredOf (s .word) me))) (at (CompletedLoad writer))))
-      by false l q e = kept-still n s (me .0) (suc (me .0)) _ _ _ (register-waits n s g i me tin writer reloads here (q ∙ sym (i .bare q .0)))
-      by true true q e = kept-still n s (me .0) (suc (me .0)) _ _ _ (register-waits n s g i me tin writer reloads here (q ∙ sym e))
-      by true false q e = kept-still n s (me .0) (suc (me .0)) _ _ _ (register-walks n s g i me tin writer reloads here q e)
+      by : (q l : Bool) → queued (s .word) ≡ q → queueLocked (s .word) ≡ l → Kept n s g me (suc (me .0)) (writes (lookAt s me (suc (me .0)) mark fails) (registeredOf (s .word) me) (s .th (me .0) .holding) (pick q (pick l (at (CompletedLoad writer)) (walkFrom (Queue (Waiter writer)) (registeredOf (s .word) me))) (at (CompletedLoad writer))))
+      by false l q e = kept-still n s g me (suc (me .0)) _ _ _ (registers-waits me g _ writer writer reloads (s .word) here) (register-waits n s g i me tin writer reloads here (q ∙ sym (i .bare q .0)))
+      by true true q e = kept-still n s g me (suc (me .0)) _ _ _ (registers-waits me g _ writer writer reloads (s .word) here) (register-waits n s g i me tin writer reloads here (q ∙ sym e))
+      by true false q e = kept-still n s g me (suc (me .0)) _ _ _ (registers-walks me g _ writer reloads (s .word) _ _ _ here) (register-walks n s g i me tin writer reloads here q e)
 
-  pub kept-register-cas : (seen : Word) → s .th (me .0) .place ≡ RegisterCas writer reloads seen → Goes n s me mark fails (suc (me .0)) (λ v. registerCasOf v writer reloads seen)
-  kept-register-cas seen here = pick-both (Kept n s (me .0) (suc (me .0))) (agreesOf (lookAt s me (suc (me .0)) mark fails) seen) _ _
+  pub kept-register-cas : (seen : Word) → s .th (me .0) .place ≡ RegisterCas writer reloads seen → Goes n s g me mark fails (suc (me .0)) (λ v. registerCasOf v writer reloads seen)
+  kept-register-cas seen here = pick-both (Kept n s g me (suc (me .0))) (agreesOf (lookAt s me (suc (me .0)) mark fails) seen) _ _
       (λ e. by seen (agreed (lookAt s me (suc (me .0)) mark fails) seen e) here)
       (λ _. contend n s g i me tin mark fails (unready seen here) writer reloads)
     where
-      by : (seen : Word) → s .word ≡ seen → s .th (me .0) .place ≡ RegisterCas writer reloads seen → Kept n s (me .0) (suc (me .0)) (writes (lookAt s me (suc (me .0)) mark fails) (registeredOf seen me) (s .th (me .0) .holding) (afterRegister writer seen (registeredOf seen me)))
-      by seen same = subst (λ x. s .th (me .0) .place ≡ RegisterCas writer reloads x → Kept n s (me .0) (suc (me .0)) (writes (lookAt s me (suc (me .0)) mark fails) (registeredOf x me) (s .th (me .0) .holding) (afterRegister writer x (registeredOf x me)))) same succeeds
+      by : (seen : Word) → s .word ≡ seen → s .th (me .0) .place ≡ RegisterCas writer reloads seen → Kept n s g me (suc (me .0)) (writes (lookAt s me (suc (me .0)) mark fails) (registeredOf seen me) (s .th (me .0) .holding) (afterRegister writer seen (registeredOf seen me)))
+      by seen same = subst (λ x. s .th (me .0) .place ≡ RegisterCas writer reloads x → Kept n s g me (suc (me .0)) (writes (lookAt s me (suc (me .0)) mark fails) (registeredOf x me) (s .th (me .0) .holding) (afterRegister writer x (registeredOf x me)))) same succeeds

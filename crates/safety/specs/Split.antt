@@ -33,6 +33,7 @@ use Rattle.safety.specs.Table.{handsOff, unheld, lookKind, mayWake, owni
 use Rattle.safety.specs.Invariant.{Real, Newest, queueOf, Inv}
 use Rattle.safety.specs.Beside.{owned, is-queued, lonely}
 use Rattle.safety.specs.Frames.{moved, glide}
+use Rattle.safety.specs.Moves.{stood, sets-aside, takes-tail, split-fails, restores-tail}
 use Rattle.safety.specs.Kept.{lookAt, Kept, kept-still, placed, Goes}
 use Rattle.safety.specs.On.{Alike, alike-own, Linked, unlinked, linked-tail, seen-as, stroll}
 use Rattle.safety.specs.Owner.{unown}
@@ -54,10 +55,10 @@ module _ (n : ℕ) (s : Lock) (g : Ghost) (i : Inv n s g) (me : ThreadNumber) (t
   on-to : (r r′ : Role) (ok ok′ : Bool) → aboutAt s (me .0) ≡ owning who seen r ok → (p : Place) → about p ≡ owning who seen r′ ok′ → filled r′ ≡ false → ok′ ≡ true → Q.Inv g (Q.moved (queueOf s) (me .0) (linksOf (s .nd)) (waitOf (s .th) (s .nd)) r′) → Inv n (moved s (me .0) (s .word) (placed (s .th (me .0)) p) (s .nd)) g
   on-to r r′ ok ok′ is p on f e q = stroll n s g i (me .0) tin p (rw (is, on) (alike-own who seen seen r r′ ok ok′ f e)) (s .nd) (linksOf (s .nd)) (unlinked (s .nd)) (λ x _. ap handsOff (ap (λ a. a .seen) on) ∙ (rw is at (i .calm x (me .0))) refl) (rw on q)
 
-  pub kept-split-prev : s .th (me .0) .place ≡ SplitPrev who seen tail → Goes n s me mark fails (tail .0) (λ v. splitPrevOf v who seen tail)
-  kept-split-prev here = pick-both (Kept n s (me .0) (tail .0)) (isNone (s .nd (tail .0) .prev)) _ _
-      (λ e. kept-still n s (me .0) (tail .0) _ _ g (on-to _ (head changes (toNode seen .0) (tail .0)) _ (not (handsOff seen)) is (TakeCas who seen tail) refl refl (rw (flags .0)) (Q.turn g (queueOf s) (i .queue) (me .0) (head changes (toNode seen .0) (tail .0)) (rw is at (i .queue .know (me .0))) (never refl))))
-      (λ e. kept-still n s (me .0) (tail .0) _ _ g (on-to _ (split (toNode seen .0) (tail .0) (s .nd (tail .0) .prev .0)) _ (unheld seen) is (SplitStore who seen tail (s .nd (tail .0) .prev)) refl refl (rw is at (i .fits (me .0))) (Q.load-split g (queueOf s) (i .queue) (me .0) (toNode seen .0) (tail .0) (ap (λ a. a .role) is) (eqb-false (s .nd (tail .0) .prev .0) 0 e))))
+  pub kept-split-prev : s .th (me .0) .place ≡ SplitPrev who seen tail → Goes n s g me mark fails (tail .0) (λ v. splitPrevOf v who seen tail)
+  kept-split-prev here = pick-both (Kept n s g me (tail .0)) (isNone (s .nd (tail .0) .prev)) _ _
+      (λ e. kept-still n s g me (tail .0) _ _ g (stood me g _ (SplitPrev who seen tail) here refl _) (on-to _ (head changes (toNode seen .0) (tail .0)) _ (not (handsOff seen)) is (TakeCas who seen tail) refl refl (rw (flags .0)) (Q.turn g (queueOf s) (i .queue) (me .0) (head changes (toNode seen .0) (tail .0)) (rw is at (i .queue .know (me .0))) (never refl))))
+      (λ e. kept-still n s g me (tail .0) _ _ g (stood me g _ (SplitPrev who seen tail) here refl _) (on-to _ (split (toNode seen .0) (tail .0) (s .nd (tail .0) .prev .0)) _ (unheld seen) is (SplitStore who seen tail (s .nd (tail .0) .prev)) refl refl (rw is at (i .fits (me .0))) (Q.load-split g (queueOf s) (i .queue) (me .0) (toNode seen .0) (tail .0) (ap (λ a. a .role) is) (eqb-false (s .nd (tail .0) .prev .0) 0 e))))
     where
       is : aboutAt s (me .0) ≡ owning who seen (head changes (toNode seen .0) (tail .0)) (unheld seen)
       is = ap about here
@@ -82,7 +83,7 @@ module _ (n : ℕ) (s : Lock) (g : Ghost) (i : Inv n s g) (me : ThreadNumber) (t
     alone : Q.Lonely (queueOf s) (me .0)
     alone = lonely n s g i (me .0) (rw is refl) off
 
-  pub kept-split-store : (prev : NodeNumber) → s .th (me .0) .place ≡ SplitStore who seen tail prev → Goes n s me mark fails (toNode seen .0) (λ v. splitStoreOf v who seen tail prev)
+  pub kept-split-store : (prev : NodeNumber) → s .th (me .0) .place ≡ SplitStore who seen tail prev → Goes n s g me mark fails (toNode seen .0) (λ v. splitStoreOf v who seen tail prev)
   kept-split-store prev here = (
     asided g (me .0) (g .tk (toNode seen .0)),
     glide n s g (asided g (me .0) (g .tk (toNode seen .0))) (me .0) (placed (s .th (me .0)) (SplitCas who seen tail)) nd′ i (record {
@@ -105,6 +106,7 @@ module _ (n : ℕ) (s : Lock) (g : Ghost) (i : Inv n s g) (me : ThreadNumber) (t
       tokens = λ u ne e d. i .token u e (sym (link .completed (suc u)) ∙ d);
       seen-to = λ e. never e (owned n s g i (me .0) (rw is refl));
     }),
+    sets-aside me g _ who seen tail prev here _ (record { some = omega (arith, two); none = knows .it .ground; node = knows .it .ist; floor = g .tk (toNode seen .0); is = refl }),
   )
     where
       is : aboutAt s (me .0) ≡ owning who seen (split (toNode seen .0) (tail .0) (prev .0)) (unheld seen)
@@ -127,10 +129,10 @@ module _ (n : ℕ) (s : Lock) (g : Ghost) (i : Inv n s g) (me : ThreadNumber) (t
 
   -- ── the compare ──
 
-  pub kept-split-cas : s .th (me .0) .place ≡ SplitCas who seen tail → Goes n s me mark fails (suc (me .0)) (λ v. splitCasOf v who seen tail)
-  kept-split-cas here = pick-both (Kept n s (me .0) (suc (me .0))) (agreesOf (lookAt s me (suc (me .0)) mark fails) seen) _ _
-      (λ e. let same : s .word ≡ seen = agreed (lookAt s me (suc (me .0)) mark fails) seen e in kept-still n s (me .0) (suc (me .0)) _ _ g (subst (λ x. Inv n (moved s (me .0) (clearQueueLocked x) (placed (s .th (me .0)) (WakeStore who tail noNode)) (s .nd)) g) same (splits same)))
-      (λ _. kept-still n s (me .0) (suc (me .0)) _ _ g fails-to)
+  pub kept-split-cas : s .th (me .0) .place ≡ SplitCas who seen tail → Goes n s g me mark fails (suc (me .0)) (λ v. splitCasOf v who seen tail)
+  kept-split-cas here = pick-both (Kept n s g me (suc (me .0))) (agreesOf (lookAt s me (suc (me .0)) mark fails) seen) _ _
+      (λ e. let same : s .word ≡ seen = agreed (lookAt s me (suc (me .0)) mark fails) seen e in kept-still n s g me (suc (me .0)) _ _ g (takes-tail me g _ who seen tail noNode here (record { one = omega (arith, knows .one, knows .end); node = knows .ist; is = refl })) (subst (λ x. Inv n (moved s (me .0) (clearQueueLocked x) (placed (s .th (me .0)) (WakeStore who tail noNode)) (s .nd)) g) same (splits same)))
+      (λ _. kept-still n s g me (suc (me .0)) _ _ g (split-fails me g _ who seen (s .word) tail here) fails-to)
     where
       is : aboutAt s (me .0) ≡ owning who seen (aside (toNode seen .0) (tail .0)) (unheld seen)
       is = ap about here
@@ -155,9 +157,9 @@ module _ (n : ℕ) (s : Lock) (g : Ghost) (i : Inv n s g) (me : ThreadNumber) (t
 
   -- ── the restore: the OLD head's tail, and the walk goes on from the reported word ──
 
-  pub kept-split-restore : (reported : Word) → s .th (me .0) .place ≡ SplitRestore who seen tail reported → Goes n s me mark fails (toNode seen .0) (λ v. splitRestoreOf v who seen tail reported)
+  pub kept-split-restore : (reported : Word) → s .th (me .0) .place ≡ SplitRestore who seen tail reported → Goes n s g me mark fails (toNode seen .0) (λ v. splitRestoreOf v who seen tail reported)
   kept-split-restore reported here = (
-    g′,
+    restored g (me .0) (g .taken (me .0) .beg),
     glide n s g (restored g (me .0) (g .taken (me .0) .beg)) (me .0) (placed (s .th (me .0)) (WalkTail (Queue who) reported (toNode reported))) (upd (s .nd) (toNode seen .0) (withTail (s .nd (toNode seen .0)) tail)) i (record {
       queue = seen-as n s g i (me .0) tin (WalkTail (Queue who) reported (toNode reported)) (rw is (alike-own who seen reported _ _ (unheld seen) true refl refl)) (upd (s .nd) (toNode seen .0) (withTail (s .nd (toNode seen .0)) tail)) _ link (restored g (me .0) (g .taken (me .0) .beg)) (s .word) (queue-on (handsOff reported));
       newest = λ e. let y : Newest g (s .word) = i .newest e in record { ticket = y .ticket; last = y .last; some = omega (arith, knows .it .one); node = y .node };
@@ -178,11 +180,9 @@ module _ (n : ℕ) (s : Lock) (g : Ghost) (i : Inv n s g) (me : ThreadNumber) (t
       tokens = λ u ne e d. i .token u e (sym (link .completed (suc u)) ∙ d);
       seen-to = λ e. never e (owned n s g i (me .0) (rw is refl));
     }),
+    restores-tail me g _ who seen reported tail here _ _ _ _ (record { one = knows .it .one; end = knows .it .end; node = knows .it .ist; is = refl }),
   )
     where
-      g′ : Ghost
-      g′ = restored g (me .0) (g .taken (me .0) .beg)
-
       is : aboutAt s (me .0) ≡ owning who seen (undo (toNode seen .0) (tail .0) (toNode reported .0)) (unheld seen)
       is = ap about here
 

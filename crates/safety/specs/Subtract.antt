@@ -32,6 +32,7 @@ use Rattle.safety.specs.Table.{walking, about, Lock, aboutAt, linksOf, w
 use Rattle.safety.specs.Invariant.{readers, writers, leavers, Locked, by-writer, by-readers, by-leaver, Real, queueOf, Inv}
 use Rattle.safety.specs.Beside.{real, quiet-reader}
 use Rattle.safety.specs.Frames.{moved, waits-as, view, summed, land}
+use Rattle.safety.specs.Moves.{stood}
 use Rattle.safety.specs.Kept.{lookAt, Kept, Goes}
 use Rattle.safety.specs.Off.{Off, is-off}
 
@@ -134,9 +135,9 @@ module _ (n : ℕ) (s : Lock) (g : Ghost) (i : Inv n s g) (me : ThreadNumber) (t
       counts r v l er ev el (inl z) = by-readers (omega arith) (record { reads = refl; writes = ev; leaves = omega arith })
       counts r v l er ev el (inr z) = by-leaver (record { reads = omega arith; writes = ev; leaves = omega arith })
 
-  pub kept-subtract : Goes n s me mark fails (tail .0) (λ v. subtractOf v seen tail)
-  kept-subtract = pick-both (Kept n s (me .0) (tail .0)) (ltb (s .nd (tail .0) .next .0) SINGLE) _ _
+  pub kept-subtract : Goes n s g me mark fails (tail .0) (λ v. subtractOf v seen tail)
+  kept-subtract = pick-both (Kept n s g me (tail .0)) (ltb (s .nd (tail .0) .next .0) SINGLE) _ _
       (λ e. omega (arith, reading .some, enough, ltb-true (s .nd (tail .0) .next .0) SINGLE e))
-      (λ _. pick-both (λ x. Kept n s (me .0) (tail .0) (subtracts (lookAt s me (tail .0) mark fails) (withNext (s .nd (tail .0)) less) (releasedRead (s .th (me .0) .holding)) x)) (eqb (s .nd (tail .0) .next .0 - SINGLE) 0) _ _
-      (λ e. (g, subtract (ReleaseCas seen) (is-off _ _ _ _) refl (inr (omega (arith, reading .some, enough, eqb-true (s .nd (tail .0) .next .0 - SINGLE) 0 e), refl))))
-      (λ e. (g, subtract Idle (is-off _ _ _ _) tt (inl (omega (arith, reading .some, enough, eqb-false (s .nd (tail .0) .next .0 - SINGLE) 0 e), refl)))))
+      (λ _. pick-both (λ x. Kept n s g me (tail .0) (subtracts (lookAt s me (tail .0) mark fails) (withNext (s .nd (tail .0)) less) (releasedRead (s .th (me .0) .holding)) x)) (eqb (s .nd (tail .0) .next .0 - SINGLE) 0) _ _
+      (λ e. (g, subtract (ReleaseCas seen) (is-off _ _ _ _) refl (inr (omega (arith, reading .some, enough, eqb-true (s .nd (tail .0) .next .0 - SINGLE) 0 e), refl)), stood me g _ (Subtract seen tail) here refl _))
+      (λ e. (g, subtract Idle (is-off _ _ _ _) tt (inl (omega (arith, reading .some, enough, eqb-false (s .nd (tail .0) .next .0 - SINGLE) 0 e), refl)), stood me g _ (Subtract seen tail) here refl _)))

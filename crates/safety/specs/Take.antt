@@ -27,6 +27,7 @@ use Rattle.safety.specs.Table.{handsOff, writes, owning, about, Lock, ab
 use Rattle.safety.specs.Invariant.{readers, writers, leavers, Hold, Unqueued, empty, read, Newest, queueOf, Inv}
 use Rattle.safety.specs.Beside.{inside, owned, unowned, is-queued, lonely, nobody-needs}
 use Rattle.safety.specs.Frames.{moved, waits-as, view, land}
+use Rattle.safety.specs.Moves.{takes-all, take-fails}
 use Rattle.safety.specs.Kept.{lookAt, Kept, kept-still, placed, Goes}
 use Rattle.safety.specs.Owner.{again}
 use Rattle.safety.specs.Split.{may-wake}
@@ -136,7 +137,7 @@ module _ (n : ℕ) (s : Lock) (g : Ghost) (i : Inv n s g) (me : ThreadNumber) (t
           unlocked true true e z = never z refl
           unlocked true false e z = never e refl
 
-  pub kept-take-cas : Goes n s me mark fails (suc (me .0)) (λ v. takeCasOf v who seen tail)
-  kept-take-cas = pick-both (Kept n s (me .0) (suc (me .0))) (agreesOf (lookAt s me (suc (me .0)) mark fails) seen) _ _
-      (λ e. let same : s .word ≡ seen = agreed (lookAt s me (suc (me .0)) mark fails) seen e in kept-still n s (me .0) (suc (me .0)) _ _ _ (subst (λ y. Inv n (moved s (me .0) (takenOf y) (placed (s .th (me .0)) (WakePrev who tail)) (s .nd)) (took g (me .0))) same (takes same)))
-      (λ _. kept-still n s (me .0) (suc (me .0)) _ _ g (again n s g i me tin mark fails who seen _ _ is (Q.leave g (queueOf s) (i .queue) (me .0) changes refl (toNode seen .0) (tail .0) (ap (λ a. a .role) is))))
+  pub kept-take-cas : Goes n s g me mark fails (suc (me .0)) (λ v. takeCasOf v who seen tail)
+  kept-take-cas = pick-both (Kept n s g me (suc (me .0))) (agreesOf (lookAt s me (suc (me .0)) mark fails) seen) _ _
+      (λ e. let same : s .word ≡ seen = agreed (lookAt s me (suc (me .0)) mark fails) seen e in kept-still n s g me (suc (me .0)) _ _ _ (takes-all me g _ who seen tail here _ (record { none = knows .ground; is = refl })) (subst (λ y. Inv n (moved s (me .0) (takenOf y) (placed (s .th (me .0)) (WakePrev who tail)) (s .nd)) (took g (me .0))) same (takes same)))
+      (λ _. kept-still n s g me (suc (me .0)) _ _ g (take-fails me g _ who seen tail here _ _ _) (again n s g i me tin mark fails who seen _ _ is (Q.leave g (queueOf s) (i .queue) (me .0) changes refl (toNode seen .0) (tail .0) (ap (λ a. a .role) is))))

@@ -18,6 +18,7 @@ use Rattle.queue.specs.Effects as Q
 use Rattle.safety.specs.Table.{waiting, about, Lock, aboutAt, linksOf, waitOf, Free}
 use Rattle.safety.specs.Invariant.{queueOf, Inv}
 use Rattle.safety.specs.Frames.{moved, waits-as, view, stay}
+use Rattle.safety.specs.Moves.{stood}
 use Rattle.safety.specs.Kept.{Kept, kept-still, placed, Goes}
 
 module _ (n : ℕ) (s : Lock) (g : Ghost) (i : Inv n s g) (me : ThreadNumber) (tin : me .0 < n) (mark : Mark) (fails : Bool) where
@@ -71,12 +72,12 @@ module _ (n : ℕ) (s : Lock) (g : Ghost) (i : Inv n s g) (me : ThreadNumber) (t
       called = λ e d. inr refl;
     })
 
-  pub kept-completed-load : (writer : Bool) → s .th (me .0) .place ≡ CompletedLoad writer → Goes n s me mark fails (suc (me .0)) (λ v. completedLoadOf v writer)
-  kept-completed-load writer here = pick-both (Kept n s (me .0) (suc (me .0))) (s .nd (suc (me .0)) .completed) _ _
-      (λ e. kept-still n s (me .0) (suc (me .0)) _ _ g (starts-again false (ap about here) writer e))
-      (λ e. kept-still n s (me .0) (suc (me .0)) _ _ g (waits-on false (ap about here) (Park writer) _ true refl (λ _ d. never e d)))
+  pub kept-completed-load : (writer : Bool) → s .th (me .0) .place ≡ CompletedLoad writer → Goes n s g me mark fails (suc (me .0)) (λ v. completedLoadOf v writer)
+  kept-completed-load writer here = pick-both (Kept n s g me (suc (me .0))) (s .nd (suc (me .0)) .completed) _ _
+      (λ e. kept-still n s g me (suc (me .0)) _ _ g (stood me g _ (CompletedLoad writer) here refl _) (starts-again false (ap about here) writer e))
+      (λ e. kept-still n s g me (suc (me .0)) _ _ g (stood me g _ (CompletedLoad writer) here refl _) (waits-on false (ap about here) (Park writer) _ true refl (λ _ d. never e d)))
 
-  pub kept-park : (writer : Bool) → s .th (me .0) .place ≡ Park writer → Goes n s me mark fails (suc (me .0)) (λ v. parkOf v writer)
-  kept-park writer here = pick-both (Kept n s (me .0) (suc (me .0))) fails _ _
-      (λ e. kept-still n s (me .0) (suc (me .0)) _ _ g (waits-on true (ap about here) (CompletedLoad writer) _ false refl (never refl)))
-      (λ e. kept-still n s (me .0) (suc (me .0)) _ _ g (waits-on true (ap about here) (CompletedLoad writer) _ false refl (never refl)))
+  pub kept-park : (writer : Bool) → s .th (me .0) .place ≡ Park writer → Goes n s g me mark fails (suc (me .0)) (λ v. parkOf v writer)
+  kept-park writer here = pick-both (Kept n s g me (suc (me .0))) fails _ _
+      (λ e. kept-still n s g me (suc (me .0)) _ _ g (stood me g _ (Park writer) here refl _) (waits-on true (ap about here) (CompletedLoad writer) _ false refl (never refl)))
+      (λ e. kept-still n s g me (suc (me .0)) _ _ g (stood me g _ (Park writer) here refl _) (waits-on true (ap about here) (CompletedLoad writer) _ false refl (never refl)))

@@ -28,14 +28,15 @@ use Rattle.lock.specs.Landed.{tokenedOf}
 use Rattle.walk.specs.CompleteAll.{wakePrevOf, wakeStoreOf}
 use Rattle.queue.specs.Tests.{never}
 use Rattle.queue.specs.Updates.{upd, upd-same, upd-other, upd-cases, map-keep, eq?}
-use Rattle.queue.specs.Tickets.{Ghost, completed, rest}
-use Rattle.queue.specs.Roles.{none, wake, store, filled}
+use Rattle.queue.specs.Tickets.{Ghost, completed, rest, takenOf}
+use Rattle.queue.specs.Roles.{none, wake, store, filled, StoreAt}
 use Rattle.queue.specs.Reads.{All, Waits, named-wait}
 use Rattle.queue.specs.Effects as Q
 use Rattle.safety.specs.Table.{About, waiter, waking, about, Lock, aboutAt, linksOf, waitOf, roleOf, Allowed}
 use Rattle.safety.specs.Invariant.{Responsible, contends, called, wakes, Newest, queueOf, Inv}
 use Rattle.safety.specs.Beside.{inside}
 use Rattle.safety.specs.Frames.{moved, waits-as, view, glide}
+use Rattle.safety.specs.Moves.{Completes, Went, stood, completes-more, completes-waits, completes-ends}
 use Rattle.safety.specs.Kept.{wokenIn, Kept, kept-still, placed, Goes}
 use Rattle.safety.specs.On.{alike-wake, unlinked, stroll}
 use Rattle.safety.specs.Tokens.{inv-token-set}
@@ -194,10 +195,10 @@ woken-before th t u p = fun-ext λ j. at j (eq? j t) (eq? j u)
     at j (inr ne) (inr nf) = rw (upd-other (upd th u (tokenedOf (th u))) t (placed (upd th u (tokenedOf (th u)) t) p) j ne, upd-other th u (tokenedOf (th u)) j nf, upd-other (upd th t (placed (th t) p)) u (tokenedOf (upd th t (placed (th t) p) u)) j nf, upd-other th t (placed (th t) p) j ne)
 
 module _ (n : ℕ) (few : n ≤ threadLimit) (s : Lock) (g : Ghost) (i : Inv n s g) (me : ThreadNumber) (tin : me .0 < n) (mark : Mark) (fails : Bool) (who : Who) (current : NodeNumber) where
-  pub kept-wake-prev : s .th (me .0) .place ≡ WakePrev who current → Goes n s me mark fails (current .0) (λ v. wakePrevOf v who current)
+  pub kept-wake-prev : s .th (me .0) .place ≡ WakePrev who current → Goes n s g me mark fails (current .0) (λ v. wakePrevOf v who current)
   kept-wake-prev here =
       let at-wake : aboutAt s (me .0) ≡ waking who (wake (current .0)) = ap about here in
-      kept-still n s (me .0) (current .0) _ _ g (stroll n s g i (me .0) tin (WakeStore who current (s .nd (current .0) .prev)) (rw at-wake (alike-wake who _ _ refl)) (s .nd) (linksOf (s .nd)) (unlinked (s .nd)) (λ r. never refl)
+      kept-still n s g me (current .0) _ _ g (stood me g _ (WakePrev who current) here refl _) (stroll n s g i (me .0) tin (WakeStore who current (s .nd (current .0) .prev)) (rw at-wake (alike-wake who _ _ refl)) (s .nd) (linksOf (s .nd)) (unlinked (s .nd)) (λ r. never refl)
       (Q.load-wake g (queueOf s) (i .queue) (me .0) (current .0) (ap (λ a. a .role) at-wake)))
 
   module _ (prev : NodeNumber) (here : s .th (me .0) .place ≡ WakeStore who current prev) where
@@ -238,11 +239,21 @@ module _ (n : ℕ) (few : n ≤ threadLimit) (s : Lock) (g : Ghost) (i : Inv n s
     may : Allowed (about (WakeStore who current prev) .may) (s .th (me .0) .holding)
     may = rw here at (i .holding (me .0))
 
-    pub kept-wake-store : Goes n s me mark fails (current .0) (λ v. wakeStoreOf v who current prev)
-    kept-wake-store = pick-both (Kept n s (me .0) (current .0)) (isNone prev) _ _
-        (λ e. (completed g (me .0), last who (refl) (eqb-true (prev .0) 0 e)))
-        (λ e. (completed g (me .0), wake-to (WakePrev who prev) (record { owner = refl; reader = refl; unfilled = refl; asleep = refl; leaves = refl; needsQueue = refl; ok = refl; may = may; registered = refl }) (Q.complete-more g (queueOf called-first) (with-token .queue) (me .0) (current .0) (prev .0) role-is (eqb-false (prev .0) 0 e))))
+    pub kept-wake-store : Goes n s g me mark fails (current .0) (λ v. wakeStoreOf v who current prev)
+    kept-wake-store = pick-both (Kept n s g me (current .0)) (isNone prev) _ _
+        (λ e. (completed g (me .0), last who refl (eqb-true (prev .0) 0 e), went-last who))
+        (λ e. (completed g (me .0), wake-to (WakePrev who prev) (record { owner = refl; reader = refl; unfilled = refl; asleep = refl; leaves = refl; needsQueue = refl; ok = refl; may = may; registered = refl }) (Q.complete-more g (queueOf called-first) (with-token .queue) (me .0) (current .0) (prev .0) role-is (eqb-false (prev .0) 0 e)), completes-more me g _ who current prev here _ done-with))
       where
+        knows : StoreAt (takenOf g (me .0)) (linksOf (s .nd)) (current .0) (prev .0)
+        knows = rw here at (i .queue .know (me .0))
+
+        done-with : Completes g (me .0) (current .0) (completed g (me .0))
+        done-with = record { some = knows .some; node = knows .isc; is = refl }
+
+        went-last : (o : Who) → Went me (s .th (me .0) .place) g (afterQueue o .place) (completed g (me .0))
+        went-last (Waiter writer) = completes-waits me g _ who writer current prev here _ done-with
+        went-last Leaver = completes-ends me g _ who current prev here _ done-with
+
         finished : prev .0 ≡ 0 → Q.Inv (completed g (me .0)) (Q.moved (queueOf called-first) (me .0) (linksOf (s .nd)) (upd (waitOf (called-first .th) (s .nd)) (current .0) false) none)
         finished z = Q.complete-last g (queueOf called-first) (with-token .queue) (me .0) (current .0) (role-is ∙ ap (store (current .0)) z)
 

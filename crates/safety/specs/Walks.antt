@@ -33,6 +33,7 @@ use Rattle.safety.specs.Invariant.{Real, queueOf, Inv}
 use Rattle.safety.specs.Told.{told}
 use Rattle.safety.specs.Beside.{on-queue, quiet-owner, quiet-reader}
 use Rattle.safety.specs.Frames.{moved}
+use Rattle.safety.specs.Moves.{stood}
 use Rattle.safety.specs.Kept.{lookAt, Kept, kept-still, placed, Goes}
 use Rattle.safety.specs.On.{Alike, alike-walk, alike-own, unlinked, linked-tail, linked-prev, stroll}
 
@@ -45,15 +46,15 @@ module _ (n : ℕ) (s : Lock) (g : Ghost) (i : Inv n s g) (me : ThreadNumber) (t
     calm : Real n s → about p .owner ≡ true → handsOff (about p .seen) ≡ true
     calm x e = ap handsOff (ap (λ a. a .seen) on ∙ sym (ap (λ a. a .seen) is)) ∙ i .calm x (me .0) (sym (alike .owner) ∙ e)
 
-  pub kept-walk-tail : (k : Walk) (seen : Word) (current : NodeNumber) → s .th (me .0) .place ≡ WalkTail k seen current → Goes n s me mark fails (current .0) (λ v. walkTailOf v k seen current)
-  kept-walk-tail k seen current here = pick-both (Kept n s (me .0) (current .0)) (isNone (s .nd (current .0) .tail)) _ _
-      (λ e. kept-still n s (me .0) (current .0) _ _ g (stroll n s g i (me .0) tin (WalkNext k seen current) (alike k seen _ _ (ap about here) (WalkNext k seen current) refl refl) (s .nd) (linksOf (s .nd)) (unlinked (s .nd)) (calm k seen _ _ (ap about here) (WalkNext k seen current) refl refl)
+  pub kept-walk-tail : (k : Walk) (seen : Word) (current : NodeNumber) → s .th (me .0) .place ≡ WalkTail k seen current → Goes n s g me mark fails (current .0) (λ v. walkTailOf v k seen current)
+  kept-walk-tail k seen current here = pick-both (Kept n s g me (current .0)) (isNone (s .nd (current .0) .tail)) _ _
+      (λ e. kept-still n s g me (current .0) _ _ g (stood me g _ (WalkTail k seen current) here refl _) (stroll n s g i (me .0) tin (WalkNext k seen current) (alike k seen _ _ (ap about here) (WalkNext k seen current) refl refl) (s .nd) (linksOf (s .nd)) (unlinked (s .nd)) (calm k seen _ _ (ap about here) (WalkNext k seen current) refl refl)
       (Q.load-none g (queueOf s) (i .queue) (me .0) (kindOf k seen) (toNode seen .0) (current .0) (ap (λ p. about p .role) here) (eqb-true (s .nd (current .0) .tail .0) 0 e))))
-      (λ e. kept-still n s (me .0) (current .0) _ _ g (stroll n s g i (me .0) tin (WalkHead k seen (s .nd (current .0) .tail)) (alike k seen _ _ (ap about here) (WalkHead k seen (s .nd (current .0) .tail)) refl refl) (s .nd) (linksOf (s .nd)) (unlinked (s .nd)) (calm k seen _ _ (ap about here) (WalkHead k seen (s .nd (current .0) .tail)) refl refl)
+      (λ e. kept-still n s g me (current .0) _ _ g (stood me g _ (WalkTail k seen current) here refl _) (stroll n s g i (me .0) tin (WalkHead k seen (s .nd (current .0) .tail)) (alike k seen _ _ (ap about here) (WalkHead k seen (s .nd (current .0) .tail)) refl refl) (s .nd) (linksOf (s .nd)) (unlinked (s .nd)) (calm k seen _ _ (ap about here) (WalkHead k seen (s .nd (current .0) .tail)) refl refl)
       (Q.load-tail g (queueOf s) (i .queue) (me .0) (kindOf k seen) (toNode seen .0) (current .0) (ap (λ p. about p .role) here) (eqb-false (s .nd (current .0) .tail .0) 0 e))))
 
-  pub kept-walk-next : (k : Walk) (seen : Word) (current : NodeNumber) → s .th (me .0) .place ≡ WalkNext k seen current → Goes n s me mark fails (current .0) (λ v. walkNextOf v k seen current)
-  kept-walk-next k seen current here = kept-still n s (me .0) (current .0) _ _ g (stroll n s g i (me .0) tin (WalkPrev k seen current (toNode (s .nd (current .0) .next))) (alike k seen _ _ (ap about here) (WalkPrev k seen current (toNode (s .nd (current .0) .next))) refl refl) (s .nd) (linksOf (s .nd)) (unlinked (s .nd)) (calm k seen _ _ (ap about here) (WalkPrev k seen current (toNode (s .nd (current .0) .next))) refl refl)
+  pub kept-walk-next : (k : Walk) (seen : Word) (current : NodeNumber) → s .th (me .0) .place ≡ WalkNext k seen current → Goes n s g me mark fails (current .0) (λ v. walkNextOf v k seen current)
+  kept-walk-next k seen current here = kept-still n s g me (current .0) _ _ g (stood me g _ (WalkNext k seen current) here refl _) (stroll n s g i (me .0) tin (WalkPrev k seen current (toNode (s .nd (current .0) .next))) (alike k seen _ _ (ap about here) (WalkPrev k seen current (toNode (s .nd (current .0) .next))) refl refl) (s .nd) (linksOf (s .nd)) (unlinked (s .nd)) (calm k seen _ _ (ap about here) (WalkPrev k seen current (toNode (s .nd (current .0) .next))) refl refl)
       (Q.load-next g (queueOf s) (i .queue) (me .0) (kindOf k seen) (toNode seen .0) (current .0) (ap (λ p. about p .role) here)))
 
   -- who walks on the queue is its owner or a contended reader: nobody else changes it
@@ -64,11 +65,12 @@ module _ (n : ℕ) (s : Lock) (g : Ghost) (i : Inv n s g) (me : ThreadNumber) (t
       by (inl o) = quiet-owner n s g i (me .0) o
       by (inr r) = quiet-reader n s g i (me .0) r (on-queue n s g i (me .0) e)
 
-  pub kept-walk-prev : (k : Walk) (seen : Word) (current next : NodeNumber) → s .th (me .0) .place ≡ WalkPrev k seen current next → Goes n s me mark fails (next .0) (λ v. walkPrevOf v k seen current next)
+  pub kept-walk-prev : (k : Walk) (seen : Word) (current next : NodeNumber) → s .th (me .0) .place ≡ WalkPrev k seen current next → Goes n s g me mark fails (next .0) (λ v. walkPrevOf v k seen current next)
   kept-walk-prev k seen current next here = (
     g,
     stroll n s g i (me .0) tin (WalkTail k seen next) (alike k seen _ _ (ap about here) (WalkTail k seen next) refl refl) (upd (s .nd) (next .0) (withPrev (s .nd (next .0)) current)) _ (linked-prev (s .nd) (next .0) current) (calm k seen _ _ (ap about here) (WalkTail k seen next) refl refl)
         (Q.store-prev g (queueOf s) (i .queue) (me .0) (kindOf k seen) (toNode seen .0) (current .0) (next .0) (ap (λ p. about p .role) here) (λ e. quiet-walk (ap (λ p. onQueue (about p .role)) here ∙ e))),
+    stood me g _ (WalkPrev k seen current next) here refl _,
   )
 
   -- ── the store of the tail in the head, and what the walk was for ──
@@ -99,40 +101,42 @@ module _ (n : ℕ) (s : Lock) (g : Ghost) (i : Inv n s g) (me : ThreadNumber) (t
       changing : handsOff seen ≡ false → (p : Place) (ok : Bool) → about p ≡ owning who seen (head changes (toNode seen .0) (tail .0)) ok → ok ≡ true → Inv n (moved s (me .0) (s .word) (placed (s .th (me .0)) p) nodes) g
       changing e p ok on f = owns p (head changes (toNode seen .0) (tail .0)) ok on refl f (Q.store-tail g (queueOf s) (i .queue) (me .0) changes refl (toNode seen .0) (tail .0) (role-is false e))
 
-      marked : handsOff seen ≡ false → (downgraded seen ≡ false → unheld seen ≡ true) → (m : Mark) → (m ≡ Missing → ⊥) → Kept n s (me .0) (toNode seen .0) (markedBy (lookAt s me (toNode seen .0) mark fails) (withTail (s .nd (toNode seen .0)) tail) who seen tail m)
+      marked : handsOff seen ≡ false → (downgraded seen ≡ false → unheld seen ≡ true) → (m : Mark) → (m ≡ Missing → ⊥) → Kept n s g me (toNode seen .0) (markedBy (lookAt s me (toNode seen .0) mark fails) (withTail (s .nd (toNode seen .0)) tail) who seen tail m)
       marked e free Missing there = absurd (there refl)
-      marked e free Reader there = (g, changing e (TakeCas who seen tail) (not (handsOff seen)) refl (rw e))
-      marked e free Writer there = pick-both (Kept n s (me .0) (toNode seen .0)) (downgraded seen) _ _
-          (λ d. (g, changing e (TakeCas who seen tail) (not (handsOff seen)) refl (rw e)))
-          (λ d. (g, changing e (SplitPrev who seen tail) (unheld seen) refl (free d)))
+      marked e free Reader there = (g, changing e (TakeCas who seen tail) (not (handsOff seen)) refl (rw e), stood me g _ (WalkHead (Queue who) seen tail) here refl _)
+      marked e free Writer there = pick-both (Kept n s g me (toNode seen .0)) (downgraded seen) _ _
+          (λ d. (g, changing e (TakeCas who seen tail) (not (handsOff seen)) refl (rw e), stood me g _ (WalkHead (Queue who) seen tail) here refl _))
+          (λ d. (g, changing e (SplitPrev who seen tail) (unheld seen) refl (free d), stood me g _ (WalkHead (Queue who) seen tail) here refl _))
 
-      pub kept-walk-head-queue : (mark ≡ Missing → ⊥) → Goes n s me mark fails (toNode seen .0) (λ v. walkHeadOf v (Queue who) seen tail)
-      kept-walk-head-queue there = pick-both (Kept n s (me .0) (toNode seen .0)) (locked seen) _ _
-          (λ l. pick-both (Kept n s (me .0) (toNode seen .0)) (downgraded seen) _ _
+      pub kept-walk-head-queue : (mark ≡ Missing → ⊥) → Goes n s g me mark fails (toNode seen .0) (λ v. walkHeadOf v (Queue who) seen tail)
+      kept-walk-head-queue there = pick-both (Kept n s g me (toNode seen .0)) (locked seen) _ _
+          (λ l. pick-both (Kept n s g me (toNode seen .0)) (downgraded seen) _ _
           (λ d. marked (rw (l, d)) (λ z. never z d) mark there)
-          (λ d. (g, leaves (rw (l, d)))))
+          (λ d. (g, leaves (rw (l, d)), stood me g _ (WalkHead (Queue who) seen tail) here refl _)))
           (λ l. marked (rw l) (λ z. rw (l, z)) mark there)
 
-    pub kept-walk-head-reader : s .th (me .0) .place ≡ WalkHead ReadUnlock seen tail → Goes n s me mark fails (toNode seen .0) (λ v. walkHeadOf v ReadUnlock seen tail)
+    pub kept-walk-head-reader : s .th (me .0) .place ≡ WalkHead ReadUnlock seen tail → Goes n s g me mark fails (toNode seen .0) (λ v. walkHeadOf v ReadUnlock seen tail)
     kept-walk-head-reader here = (
       g,
       stroll n s g i (me .0) tin (Subtract seen tail) (alike ReadUnlock seen _ _ (ap about here) (Subtract seen tail) refl refl) nodes _ (linked-tail (s .nd) (toNode seen .0) tail) (calm ReadUnlock seen _ _ (ap about here) (Subtract seen tail) refl refl)
           (Q.store-tail g (queueOf s) (i .queue) (me .0) looks refl (toNode seen .0) (tail .0) (ap (λ p. about p .role) here)),
+      stood me g _ (WalkHead ReadUnlock seen tail) here refl _,
     )
 
     -- a downgrade's own queue is now its list, oldest first
-    pub kept-walk-head-downgrade : s .th (me .0) .place ≡ WalkHead Downgrade seen tail → Goes n s me mark fails (toNode seen .0) (λ v. walkHeadOf v Downgrade seen tail)
+    pub kept-walk-head-downgrade : s .th (me .0) .place ≡ WalkHead Downgrade seen tail → Goes n s g me mark fails (toNode seen .0) (λ v. walkHeadOf v Downgrade seen tail)
     kept-walk-head-downgrade here =
         let is : aboutAt s (me .0) ≡ walking Downgrade seen (head alone (toNode seen .0) (tail .0)) = ap about here in (
           g,
           stroll n s g i (me .0) tin (WakePrev Leaver tail) (rw is turned) nodes _ (linked-tail (s .nd) (toNode seen .0) tail) (λ x. never refl)
               (Q.store-alone g (queueOf s) (i .queue) (me .0) (toNode seen .0) (tail .0) (ap (λ a. a .role) is)),
+          stood me g _ (WalkHead Downgrade seen tail) here refl _,
         )
       where
         turned : Alike (walking Downgrade seen (head alone (toNode seen .0) (tail .0))) (about (WakePrev Leaver tail))
         turned = record { unfilled = refl; owner = refl; reader = refl; registered = refl; asleep = refl; may = λ h a. a .writes; ok = refl; leaves = refl; needsQueue = refl; contends = refl }
 
-  pub kept-walk-head : (k : Walk) (seen : Word) (tail : NodeNumber) → s .th (me .0) .place ≡ WalkHead k seen tail → (mark ≡ Missing → ⊥) → Goes n s me mark fails (toNode seen .0) (λ v. walkHeadOf v k seen tail)
+  pub kept-walk-head : (k : Walk) (seen : Word) (tail : NodeNumber) → s .th (me .0) .place ≡ WalkHead k seen tail → (mark ≡ Missing → ⊥) → Goes n s g me mark fails (toNode seen .0) (λ v. walkHeadOf v k seen tail)
   kept-walk-head (Queue who) seen tail here there = kept-walk-head-queue seen tail who here there
   kept-walk-head ReadUnlock seen tail here there = kept-walk-head-reader seen tail here
   kept-walk-head Downgrade seen tail here there = kept-walk-head-downgrade seen tail here
