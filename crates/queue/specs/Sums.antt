@@ -1,12 +1,12 @@
 -- Sums over the numbers below n, and how many different numbers below n there are. Assumes nothing.
-use mathlib.Core.Path.{_≡_, refl, sym, _∙_}
+use mathlib.Core.Path.{_≡_, refl, sym, ap, _∙_}
 use mathlib.Core.Logic.{_≢_, _⊎_, inl, inr}
 use Prim.Native.Nat.{ℕ, zero, suc, _+_, _≤_, _<_}
 use native.Mathlib.Omega.{arith}
 use lib.Dec.{eqb}
 use borrow.Author.Tests.{eq-eqb, ne-eqb}
 use Rattle.word.specs.Base.{pick}
-use Rattle.queue.specs.Updates.{eq?}
+use Rattle.queue.specs.Updates.{upd, upd-same, upd-other, eq?}
 
 -- the sum of f over 0 .. n - 1
 abbrev pub sum : ℕ → (ℕ → ℕ) → ℕ
@@ -25,6 +25,10 @@ sum-one (suc n) f g i l h = go (λ k. sum-one n f g i k h) (eq? i n)
     go : (i < n → sum n f + g i ≡ sum n g + f i) → (i ≡ n) ⊎ (i ≢ n) → sum (suc n) f + g i ≡ sum (suc n) g + f i
     go r (inl e) = rw (e, sum-same n f g (λ j k. h j (λ q. omega arith))) (omega arith)
     go r (inr ne) = omega (arith, r (omega arith), h n (λ q. ne (sym q)))
+
+-- one argument's value replaced
+pub sum-upd : {A : Type 0} (n : ℕ) (f : A → ℕ) (h : ℕ → A) (i : ℕ) (x : A) → i < n → sum n (λ j. f (upd h i x j)) + f (h i) ≡ sum n (λ j. f (h j)) + f x
+sum-upd n f h i x l = rw (upd-same h i x) at (sum-one n (λ j. f (upd h i x j)) (λ j. f (h j)) i l (λ j ne. ap f (upd-other h i x j ne)))
 
 -- a term is at most the sum, and two terms are
 pub sum-le : (n : ℕ) (f : ℕ → ℕ) (i : ℕ) → i < n → f i ≤ sum n f
@@ -46,6 +50,15 @@ sum-two (suc n) f i j k l = go (λ q. sum-two n f i j k q) (eq? j n)
 pub sum-zero : (n : ℕ) (f : ℕ → ℕ) → ((j : ℕ) → j < n → f j ≡ 0) → sum n f ≡ 0
 sum-zero zero f h = refl
 sum-zero (suc n) f h = omega (arith, h n (omega arith), sum-zero n f (λ j l. h j (omega arith)))
+
+-- a sum that is not 0 has such a term
+pub sum-some : (n : ℕ) (f : ℕ → ℕ) → 0 < sum n f → (i : ℕ) × (1 ≤ f i)
+sum-some zero f l = absurd (omega arith)
+sum-some (suc n) f l = go (λ k. sum-some n f k) (eq? (f n) 0)
+  where
+    go : (0 < sum n f → (i : ℕ) × (1 ≤ f i)) → (f n ≡ 0) ⊎ (f n ≢ 0) → (i : ℕ) × (1 ≤ f i)
+    go r (inl e) = r (omega arith)
+    go r (inr ne) = (n, omega arith)
 
 -- m different numbers below n are at most n
 pub pigeon : (n m : ℕ) (f : ℕ → ℕ) → ((i : ℕ) → i < m → f i < n) → ((i j : ℕ) → i < m → j < m → i ≢ j → f i ≢ f j) → m ≤ n

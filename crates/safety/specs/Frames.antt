@@ -12,7 +12,7 @@ use Rattle.state.specs.Holding.{readsOf, writesOf}
 use Rattle.state.specs.declared.machine.Thread.{Thread}
 use Rattle.state.specs.declared.node.Node.{Node}
 use Rattle.queue.specs.Updates.{upd, upd-same, upd-other, upd-cases, map-upd, eq?}
-use Rattle.queue.specs.Sums.{sum, sum-one}
+use Rattle.queue.specs.Sums.{sum, sum-upd}
 use Rattle.queue.specs.Tickets.{Ghost}
 use Rattle.queue.specs.Queue.{Links}
 use Rattle.queue.specs.Roles.{filled}
@@ -41,7 +41,7 @@ module _ (s : Lock) (t : ℕ) (x : Thread) (nd : ℕ → Node) where
 
   -- a sum over the threads, after t became x
   pub summed : (n : ℕ) → t < n → (f : Thread → ℕ) → sum n (λ u. f (upd (s .th) t x u)) + f (s .th t) ≡ sum n (λ u. f (s .th u)) + f x
-  summed n l f = rw (upd-same (s .th) t x) at (sum-one n (λ u. f (upd (s .th) t x u)) (λ u. f (s .th u)) t l (λ j ne. ap f (upd-other (s .th) t x j ne)))
+  summed n l f = sum-upd n f (s .th) t x l
 
 -- ── the word changes ──
 

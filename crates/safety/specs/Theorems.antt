@@ -1,0 +1,78 @@
+-- The theorems of demand 3, by the names of their statements. Assumes nothing.
+use Prim.Native.Nat.{ℕ, suc, _+_, _<_}
+use mathlib.Core.Bool.{Bool, true}
+use mathlib.Core.List.{List, []}
+use mathlib.Core.Logic.{_⊎_, inl, inr, _≢_}
+use mathlib.Core.Path.{_≡_, refl, sym, ap, _∙_, subst}
+use native.Mathlib.Decide.{decLt}
+use native.Mathlib.Numerals.{add-one}
+use native.Mathlib.Omega.{arith}
+use Rattle.word.specs.Number.{node, thread, nodeOf}
+use Rattle.word.specs.declared.number.ThreadNumber.{ThreadNumber}
+use Rattle.state.specs.Access.{accessOf, touchedOf}
+use Rattle.state.specs.Machine.{threadAt, nodeAt, freshOf}
+use Rattle.state.specs.declared.holding.Holding.the-variants.{Nothing}
+use Rattle.state.specs.declared.machine.Machine.{Machine}
+use Rattle.state.specs.declared.place.Place.the-variants.{Park}
+use Rattle.queue.specs.Sums.{sum-zero}
+use Rattle.safety.specs.Table.{Lock, Free}
+use Rattle.safety.specs.Invariant.{readers, Inv}
+use Rattle.safety.specs.Beside.{inside}
+use Rattle.safety.specs.Wake.{Waiter-of, waiter-of}
+use Rattle.safety.specs.Steps.{Waiting, touches}
+use Rattle.safety.specs.Bridge.{lockOf}
+use Rattle.safety.specs.Fresh.{freshLock}
+use Rattle.safety.specs.Events.{Ok, event-safe}
+use Rattle.safety.specs.Intervals.{down, node-is}
+use Rattle.safety.specs.Statements.{OnePlace, ListsMove, ListingTotal, ReaderCount, registrations, Event, reached, holdersOf, Plainly, PlainLock, MutualExclusion, Waiter, Resting, NobodyStuck, NeverEight, TouchedAlive}
+use Rattle.safety.specs.Runs.{start, reached-ok}
+use Rattle.safety.specs.Plain.{whose, run-allowed}
+use Rattle.safety.specs.Spots.{waiter-is, one-spot, spot-waits}
+use Rattle.safety.specs.ListMoves.{event-lists}
+use Rattle.safety.specs.Registrations.{made-in, listing-made}
+use Rattle.safety.specs.Counts.{readersIn, tallied, counted}
+use Rattle.safety.specs.Stuck.{Rests, nobody-asleep}
+
+pub never-eight : NeverEight
+never-eight n es e = event-safe (reached n es) (reached-ok n es) (e .thread) (e .code) .not-eight
+
+pub plain-lock : PlainLock
+plain-lock n es = subst (λ h. Plainly h (freshOf n .machine) es (holdersOf (reached n es))) (ap (λ s t. s .th t .holding) (start n .lock)) (run-allowed (freshOf n .machine) (start n .ok) es)
+
+pub mutual-exclusion : MutualExclusion
+mutual-exclusion n es = whose (reached n es) (reached-ok n es)
+
+pub touched-alive : TouchedAlive
+touched-alive n es t = by (touches (m .count) (lockOf m) (ok .ghost) (ok .inv) t (threadAt m (t .0) .place) refl)
+  where
+    m : Machine
+    m = reached n es
+
+    ok : Ok (reached n es)
+    ok = reached-ok n es
+
+    by : (touchedOf (accessOf t (threadAt (reached n es) (t .0) .place)) t .0 ≡ t .0 + 1) ⊎ Waiting (reached n es .count) (lockOf (reached n es)) (ok .ghost) (ok .inv) (touchedOf (accessOf t (threadAt (reached n es) (t .0) .place)) t .0) → (touchedOf (accessOf t (threadAt (reached n es) (t .0) .place)) t ≡ nodeOf t) ⊎ ((u : ℕ) × (touchedOf (accessOf t (threadAt (reached n es) (t .0) .place)) t ≡ nodeOf (thread u)) × Waiter (reached n es) u)
+    by (inl e) = inl (node-is _ _ e)
+    by (inr w) = let x = waiter-is (reached n es) ok _ (waiter-of (lockOf (reached n es)) _ w) in inr (x .0, x .1, x .2)
+
+pub nobody-stuck : NobodyStuck
+nobody-stuck n es all t writer l = nobody-asleep (reached n es .count) (lockOf (reached n es)) (reached-ok n es .ghost) (reached-ok n es .inv) (λ u. rests u (decLt u (reached n es .count))) t writer
+  where
+    rests : (u : ℕ) → Dec (u < reached n es .count) → Rests (lockOf (reached n es)) u
+    rests u (yes k) = record { place = all u k .1; holding = rw (all u k .0) (record { reads = refl; writes = refl }) }
+    rests u (no k) = record { place = inl (reached-ok n es .inv .outside u (omega arith)); holding = reached-ok n es .inv .unheld u (omega arith) }
+
+pub one-place : OnePlace
+one-place n es = (one-spot (reached n es) (reached-ok n es), spot-waits (reached n es) (reached-ok n es))
+
+pub lists-move : ListsMove
+lists-move n es e = event-lists (reached n es) (reached-ok n es) e
+
+pub listing-total : ListingTotal
+listing-total n es = listing-made (reached n es) (registrations (freshOf n .machine) es []) (made-in (freshOf n .machine) [] (record { ok = start n .ok; is = ap (λ g. down (g .log) 0 (g .hi)) (sym (start n .none)) }) es)
+
+pub reader-count : ReaderCount
+reader-count n es = (readersIn (reached n es), omega (arith, tallied (freshOf n .machine) (start n .ok) es, none), counted (reached n es) (reached-ok n es))
+  where
+    none : readersIn (freshOf n .machine) ≡ 0
+    none = ap (λ s. readers (freshOf n .machine .count) s) (start n .lock) ∙ sum-zero (freshOf n .machine .count) (λ t. 0) (λ j l. refl)
