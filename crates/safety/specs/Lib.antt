@@ -41,4 +41,5 @@ pub mod Members
 pub mod Registrations
 pub mod Counts
 pub mod Spots
+pub mod Replays
 pub mod Theorems

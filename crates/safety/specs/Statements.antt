@@ -23,6 +23,8 @@ use Rattle.state.specs.declared.machine.Machine.{Machine}
 use Rattle.state.specs.declared.place.Place.the-variants.{Idle, Park}
 use Rattle.lock.specs.Effect.{LockEffect, keeps, grantsRead, grantsWrite, releasesRead, releasesWrite, downgrades, QueueEffect, stands, registers, setsAside, restores, takesTail, takesAll, completes, Effect, effectOf}
 use Rattle.lock.specs.Event.{eventOf}
+use Rattle.schedule.specs.Whole.{fileReplayOf}
+use Rattle.schedule.specs.declared.whole.FileStop.the-variants.{Refused as FileStopped}
 use Rattle.listing.specs.Listing.{Listed, lost, listed, nodeBy, listedOf, waitersOf}
 use Rattle.listing.specs.ReaderCount.{oldest, readersOf}
 use Rattle.queue.specs.Updates.{upd}
@@ -231,3 +233,15 @@ NeverEight = (n : ℕ) (es : List Event) (e : Event) → eventOf (reached n es) 
 abbrev pub TouchedAlive : Type 0
 TouchedAlive =
     (n : ℕ) (es : List Event) (t : ThreadNumber) → (touchedOf (accessOf t (threadAt (reached n es) (t .0) .place)) t ≡ nodeOf t) ⊎ ((u : ℕ) × (touchedOf (accessOf t (threadAt (reached n es) (t .0) .place)) t ≡ nodeOf (thread u)) × Waiter (reached n es) u)
+
+-- ── a replayed file ──
+
+-- the machine that a replay of any file hands back is reached from fresh, so all of the above holds of it; and a replay is never refused 8
+pub record Replayed (file : List ℕ) : Type 0 where
+  pub count : ℕ
+  pub events : List Event
+  pub machine : fileReplayOf file .machine ≡ reached count events
+  pub not-eight : fileReplayOf file .stop ≢ FileStopped Damaged
+
+abbrev pub ReplayedSafe : Type 0
+ReplayedSafe = (file : List ℕ) → Replayed file

@@ -1,17 +1,17 @@
 -- Where nobody holds the lock and every thread rests, nobody is asleep: somebody would be responsible for it, and nobody is there to be. Assumes nothing.
 use Prim.Native.Nat.{ℕ, suc, _≤_, _<_}
-use mathlib.Core.Bool.{Bool, true, false, not}
+use mathlib.Core.Bool.{Bool, true, false}
 use mathlib.Core.Logic.{_⊎_, inl, inr}
-use mathlib.Core.Path.{_≡_, refl, sym, ap, _∙_}
+use mathlib.Core.Path.{_≡_, refl, ap}
 use native.Mathlib.Omega.{arith}
 use Rattle.word.specs.Flags.{locked, queued, queueLocked, downgraded}
 use Rattle.state.specs.Holding.{readsOf, writesOf}
 use Rattle.state.specs.declared.place.Place.the-variants.{Idle, Park}
 use Rattle.queue.specs.Tests.{never, not-true}
-use Rattle.queue.specs.Sums.{sum, sum-zero}
+use Rattle.queue.specs.Sums.{sum-zero}
 use Rattle.queue.specs.Tickets.{Ghost, Somewhere}
 use Rattle.queue.specs.Roles.{none}
-use Rattle.safety.specs.Table.{off, any, waiting, about, Lock, aboutAt, waitOf, Free, weight, leaver}
+use Rattle.safety.specs.Table.{waiting, about, Lock, aboutAt, waitOf, Free, weight, leaver}
 use Rattle.safety.specs.Invariant.{readers, writers, leavers, Locked, by-writer, by-readers, by-leaver, Responsible, contends, called, wakes, Inv}
 
 -- idle, or asleep without a wake token; nothing is held

@@ -1,36 +1,29 @@
 -- The theorems of demand 3, by the names of their statements. Assumes nothing.
-use Prim.Native.Nat.{ℕ, suc, _+_, _<_}
-use mathlib.Core.Bool.{Bool, true}
-use mathlib.Core.List.{List, []}
-use mathlib.Core.Logic.{_⊎_, inl, inr, _≢_}
+use Prim.Native.Nat.{ℕ, _+_, _<_}
+use mathlib.Core.List.{[]}
+use mathlib.Core.Logic.{_⊎_, inl, inr}
 use mathlib.Core.Path.{_≡_, refl, sym, ap, _∙_, subst}
 use native.Mathlib.Decide.{decLt}
-use native.Mathlib.Numerals.{add-one}
 use native.Mathlib.Omega.{arith}
-use Rattle.word.specs.Number.{node, thread, nodeOf}
-use Rattle.word.specs.declared.number.ThreadNumber.{ThreadNumber}
+use Rattle.word.specs.Number.{thread, nodeOf}
 use Rattle.state.specs.Access.{accessOf, touchedOf}
-use Rattle.state.specs.Machine.{threadAt, nodeAt, freshOf}
-use Rattle.state.specs.declared.holding.Holding.the-variants.{Nothing}
+use Rattle.state.specs.Machine.{threadAt, freshOf}
 use Rattle.state.specs.declared.machine.Machine.{Machine}
-use Rattle.state.specs.declared.place.Place.the-variants.{Park}
 use Rattle.queue.specs.Sums.{sum-zero}
-use Rattle.safety.specs.Table.{Lock, Free}
-use Rattle.safety.specs.Invariant.{readers, Inv}
-use Rattle.safety.specs.Beside.{inside}
-use Rattle.safety.specs.Wake.{Waiter-of, waiter-of}
+use Rattle.safety.specs.Invariant.{readers}
+use Rattle.safety.specs.Wake.{waiter-of}
 use Rattle.safety.specs.Steps.{Waiting, touches}
 use Rattle.safety.specs.Bridge.{lockOf}
-use Rattle.safety.specs.Fresh.{freshLock}
 use Rattle.safety.specs.Events.{Ok, event-safe}
 use Rattle.safety.specs.Intervals.{down, node-is}
-use Rattle.safety.specs.Statements.{OnePlace, ListsMove, ListingTotal, ReaderCount, registrations, Event, reached, holdersOf, Plainly, PlainLock, MutualExclusion, Waiter, Resting, NobodyStuck, NeverEight, TouchedAlive}
+use Rattle.safety.specs.Statements.{ReplayedSafe, OnePlace, ListsMove, ListingTotal, ReaderCount, registrations, reached, holdersOf, Plainly, PlainLock, MutualExclusion, Waiter, NobodyStuck, NeverEight, TouchedAlive}
 use Rattle.safety.specs.Runs.{start, reached-ok}
 use Rattle.safety.specs.Plain.{whose, run-allowed}
 use Rattle.safety.specs.Spots.{waiter-is, one-spot, spot-waits}
 use Rattle.safety.specs.ListMoves.{event-lists}
 use Rattle.safety.specs.Registrations.{made-in, listing-made}
 use Rattle.safety.specs.Counts.{readersIn, tallied, counted}
+use Rattle.safety.specs.Replays.{replayed}
 use Rattle.safety.specs.Stuck.{Rests, nobody-asleep}
 
 pub never-eight : NeverEight
@@ -76,3 +69,6 @@ reader-count n es = (readersIn (reached n es), omega (arith, tallied (freshOf n 
   where
     none : readersIn (freshOf n .machine) ≡ 0
     none = ap (λ s. readers (freshOf n .machine .count) s) (start n .lock) ∙ sum-zero (freshOf n .machine .count) (λ t. 0) (λ j l. refl)
+
+pub replayed-safe : ReplayedSafe
+replayed-safe = replayed
