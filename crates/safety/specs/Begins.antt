@@ -12,6 +12,7 @@ use Rattle.queue.specs.Tests.{never}
 use Rattle.queue.specs.Tickets.{Ghost}
 use Rattle.safety.specs.Table.{any, off, about, Lock, aboutAt, Free, Reads, Writes, Allowed}
 use Rattle.safety.specs.Invariant.{Inv}
+use Rattle.safety.specs.Lists.{isAside}
 use Rattle.safety.specs.Frames.{moved}
 use Rattle.safety.specs.Kept.{placed}
 use Rattle.safety.specs.Off.{Off, is-off, off-down, hop}
@@ -38,6 +39,16 @@ pub record First (call : Call) (h : Holding) : Type 0 where
   pub allowed : Allowed (about (firstPlace call) .may) h
   pub needs : about (firstPlace call) .needsQueue ≡ false
   pub leaves : about (firstPlace call) .leaves ≡ false
+
+-- and it is no place of a split
+pub near : (call : Call) → isAside (firstPlace call) ≡ false
+near ToRead = refl
+near ToWrite = refl
+near TryRead = refl
+near TryWrite = refl
+near ReadUnlock = refl
+near WriteUnlock = refl
+near Downgrade = refl
 
 first : (call : Call) (h : Holding) → mayBegin call h ≡ true → First call h
 first ToRead h e = record { off = is-off _ _ _ _; allowed = nothing-held h e; needs = refl; leaves = refl }

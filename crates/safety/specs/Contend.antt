@@ -37,6 +37,7 @@ use Rattle.queue.specs.Effects as Q
 use Rattle.safety.specs.Table.{off, free, about, Lock, aboutAt, linksOf, waitOf, roleOf, Free, leaver}
 use Rattle.safety.specs.Invariant.{readers, writers, leavers, Unqueued, empty, written, read, Real, Newest, queueOf, Inv}
 use Rattle.safety.specs.Frames.{moved, waits-as, view, stay}
+use Rattle.safety.specs.Lists.{isAside}
 use Rattle.safety.specs.Moves.{Went, still, stood, contend-elsewhere}
 use Rattle.safety.specs.Kept.{lookAt, Kept, kept-still, placed, Goes}
 use Rattle.safety.specs.Off.{is-off, Down, off-down, hop, finish}
@@ -58,7 +59,7 @@ pub record Contends (s : Lock) (g : Ghost) (me : ThreadNumber) : Type 0 where
   pub down : Down s g (me .0)
   pub free : Free (s .th (me .0) .holding)
   pub leaves : leaver (s .th (me .0)) ≡ 0
-  pub unmoved : (p : Place) → standOf p ≡ elsewhere → Went me (s .th (me .0) .place) g p g
+  pub unmoved : (p : Place) → standOf p ≡ elsewhere → isAside p ≡ false → Went me (s .th (me .0) .place) g p g
 
 -- the fill, to the links
 fill-links : (nd : ℕ → Node) (me : ThreadNumber) (writer : Bool) (w : Word) → linksOf (upd nd (suc (me .0)) (filledOf me writer w)) ≡ Q.fillLinks (linksOf nd) (suc (me .0)) (not (queued w)) (withoutFlags w .0)
@@ -97,7 +98,7 @@ module _ (n : ℕ) (s : Lock) (g : Ghost) (i : Inv n s g) (me : ThreadNumber) (t
       contending = λ e. refl;
       called = λ e. never (c .down .registered) e;
     }),
-    c .unmoved (RegisterCas writer reloads (s .word)) (contend-elsewhere writer reloads (s .word) .2),
+    c .unmoved (RegisterCas writer reloads (s .word)) (contend-elsewhere writer reloads (s .word) .2) refl,
   )
     where
       x : Thread
@@ -138,8 +139,8 @@ module _ (n : ℕ) (s : Lock) (g : Ghost) (i : Inv n s g) (me : ThreadNumber) (t
       by ReadRefused f z = absurd (let bad : _≡_ {A = ℕ} 0 1 = cc in omega arith)
 
   module _ (writer : Bool) (reloads : ℕ) where
-    on-to : (q : Place) → about q ≡ off free false false true → standOf q ≡ elsewhere → Kept n s g me (suc (me .0)) (stays (lookAt s me (suc (me .0)) mark fails) (at q))
-    on-to q told away = kept-still n s g me (suc (me .0)) _ _ g (c .unmoved q away) (hop n s g i (me .0) tin (c .down) q (rw told (is-off _ _ _ _)) (rw told (c .free)) (rw told (never refl)) (rw told (sym (c .leaves))) (λ _. rw told))
+    on-to : (q : Place) → about q ≡ off free false false true → standOf q ≡ elsewhere → isAside q ≡ false → Kept n s g me (suc (me .0)) (stays (lookAt s me (suc (me .0)) mark fails) (at q))
+    on-to q told away near = kept-still n s g me (suc (me .0)) _ _ g (c .unmoved q away near) (hop n s g i (me .0) tin (c .down) q (rw told (is-off _ _ _ _)) (rw told (c .free)) (rw told (never refl)) (rw told (sym (c .leaves))) (λ _. rw told))
 
     pub contend : Kept n s g me (suc (me .0)) (contendJudged (lookAt s me (suc (me .0)) mark fails) writer reloads (s .word))
     contend = by (permittedOf writer (s .word)) refl
@@ -148,16 +149,16 @@ module _ (n : ℕ) (s : Lock) (g : Ghost) (i : Inv n s g) (me : ThreadNumber) (t
         fill-bare e q = fill writer reloads (rw q (refused-locked writer (s .word) (readers n s) (writers n s) (leavers n s) (i .count .bare q) e))
 
         by : (r : Permitted) → permittedOf writer (s .word) ≡ r → Kept n s g me (suc (me .0)) (contendBy (lookAt s me (suc (me .0)) mark fails) writer reloads (s .word) r)
-        by (To to) e = on-to (ContendCas writer reloads (s .word)) refl (contend-elsewhere writer reloads (s .word) .1)
+        by (To to) e = on-to (ContendCas writer reloads (s .word)) refl (contend-elsewhere writer reloads (s .word) .1) refl
         by Refused e = pick-both (Kept n s g me (suc (me .0))) (queued (s .word)) _ _
             (λ q. fill writer reloads (rw q))
-            (λ q. pick-both (Kept n s g me (suc (me .0))) (ltb reloads spinCount) _ _ (λ _. on-to (ContendLoad writer (reloads + 1)) refl (contend-elsewhere writer (reloads + 1) (s .word) .0)) (λ _. fill-bare e q))
+            (λ q. pick-both (Kept n s g me (suc (me .0))) (ltb reloads spinCount) _ _ (λ _. on-to (ContendLoad writer (reloads + 1)) refl (contend-elsewhere writer (reloads + 1) (s .word) .0) refl) (λ _. fill-bare e q))
 
 module _ (n : ℕ) (s : Lock) (g : Ghost) (i : Inv n s g) (me : ThreadNumber) (tin : me .0 < n) (mark : Mark) (fails : Bool) where
   contends-off : (p : Place) → s .th (me .0) .place ≡ p → about p ≡ off free false false true → still p ≡ true → Contends s g me
   contends-off p here told unmoved =
       let e : aboutAt s (me .0) ≡ off free false false true = ap about here ∙ told in
-      record { down = off-down n s g i (me .0) (rw e (is-off _ _ _ _)); free = rw e at (i .holding (me .0)); leaves = rw e; unmoved = λ q _. stood me g _ p here unmoved q }
+      record { down = off-down n s g i (me .0) (rw e (is-off _ _ _ _)); free = rw e at (i .holding (me .0)); leaves = rw e; unmoved = λ q _ near. stood me g _ p here unmoved q near }
 
   pub kept-contend-load : (writer : Bool) (reloads : ℕ) → s .th (me .0) .place ≡ ContendLoad writer reloads → Goes n s g me mark fails (suc (me .0)) (λ v. contendLoadOf v writer reloads)
   kept-contend-load writer reloads here = contend n s g i me tin mark fails (contends-off (ContendLoad writer reloads) here refl refl) writer reloads
@@ -172,5 +173,5 @@ module _ (n : ℕ) (s : Lock) (g : Ghost) (i : Inv n s g) (me : ThreadNumber) (t
       again = contend n s g i me tin mark fails c writer reloads
 
       by : (r : Permitted) → permittedOf writer (s .word) ≡ r → Kept n s g me (suc (me .0)) (contendCasBy (lookAt s me (suc (me .0)) mark fails) writer reloads r)
-      by (To to) e = kept-still n s g me (suc (me .0)) _ _ g (stood me g _ (ContendCas writer reloads seen) here refl _) (grant n s g i me tin mark fails c writer to e)
+      by (To to) e = kept-still n s g me (suc (me .0)) _ _ g (stood me g _ (ContendCas writer reloads seen) here refl _ refl) (grant n s g i me tin mark fails c writer to e)
       by Refused e = again

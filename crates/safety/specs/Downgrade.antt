@@ -163,8 +163,8 @@ module _ (n : ℕ) (s : Lock) (g : Ghost) (i : Inv n s g) (me : ThreadNumber) (t
 
   pub kept-downgrade-cas : s .th (me .0) .place ≡ DowngradeCas → Goes n s g me mark fails k (λ v. downgradeCasOf v)
   kept-downgrade-cas here = pick-both (Kept n s g me k) (eqb (s .word .0) LOCKED) _ _
-      (λ e. kept-still n s g me k _ _ g (stood me g _ DowngradeCas here refl _) (finish n s g i (me .0) tin _ _ _ (plainly n s g i me tin false (ap about here) (eqb-true (s .word .0) LOCKED e))))
-      (λ e. kept-still n s g me k _ _ g (stood me g _ DowngradeCas here refl _) (slowly false (ap about here) (not-false (queued (s .word)) (λ q. eqb-false (s .word .0) LOCKED e (sole-bare n s g i (some n s g i me tin false (ap about here)) q .0)))))
+      (λ e. kept-still n s g me k _ _ g (stood me g _ DowngradeCas here refl _ refl) (finish n s g i (me .0) tin _ _ _ (plainly n s g i me tin false (ap about here) (eqb-true (s .word .0) LOCKED e))))
+      (λ e. kept-still n s g me k _ _ g (stood me g _ DowngradeCas here refl _ refl) (slowly false (ap about here) (not-false (queued (s .word)) (λ q. eqb-false (s .word .0) LOCKED e (sole-bare n s g i (some n s g i me tin false (ap about here)) q .0)))))
 
   pub kept-downgrade-slow-cas : (seen : Word) → s .th (me .0) .place ≡ DowngradeSlowCas seen → Goes n s g me mark fails k (λ v. downgradeSlowCasOf v seen)
   kept-downgrade-slow-cas seen here = pick-both (Kept n s g me k) (agreesOf (lookAt s me k mark fails) seen) _ _

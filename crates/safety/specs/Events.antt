@@ -40,7 +40,6 @@ use Rattle.state.specs.declared.view.Stepped.the-variants.{To, Refused as Denie
 use Rattle.lock.specs.Advance.{advanceOf}
 use Rattle.lock.specs.Begin.{isIdle, mayBegin, firstPlace, placedOf, beganOf, beginOf}
 use Rattle.lock.specs.Code.{codeOf}
-use Rattle.lock.specs.Effect.{effectOf}
 use Rattle.lock.specs.Event.{eventBy, eventOf}
 use Rattle.lock.specs.Landed.{wokenOf, storedOf, landedOf}
 use Rattle.lock.specs.Laws.{slot-at, good-count}
@@ -56,10 +55,11 @@ use Rattle.queue.specs.Tests.{never}
 use Rattle.queue.specs.Updates.{upd, upd-same, upd-cases}
 use Rattle.queue.specs.Tickets.{Ghost}
 use Rattle.safety.specs.Invariant.{Inv}
-use Rattle.safety.specs.Moves.{Moved, Went, stood}
+use Rattle.safety.specs.Lists.{isAside}
+use Rattle.safety.specs.Moves.{Moved, AsideAfter, Went, stood}
 use Rattle.safety.specs.Kept.{wokenIn, Kept, Goes}
 use Rattle.safety.specs.Steps.{Waiting, touches, slot-waiting, slot-marked, kept-at}
-use Rattle.safety.specs.Begins.{begins}
+use Rattle.safety.specs.Begins.{near, begins}
 use Rattle.safety.specs.Bridge.{lockOf, thread-stored, change-stored}
 
 -- a machine that has the invariant
@@ -72,7 +72,7 @@ pub record Ok (m : Machine) : Type 0 where
 -- so has the machine after an event of thread me, the tickets g having moved by its effect alone; and the reply is not 8
 pub record Safe (m : Machine) (g : Ghost) (me : ThreadNumber) (o : Outcome) : Type 0 where
   pub ok : Ok (o .machine)
-  pub moved : Moved (effectOf me m (o .machine) .queue) g (me .0) (ok .ghost)
+  pub moved : Went me (threadAt m (me .0) .place) g (threadAt (o .machine) (me .0) .place) (ok .ghost)
   pub not-eight : o .reply ≡ RefusedBy Damaged → ⊥
 
 -- a refusal other than 8
@@ -80,7 +80,7 @@ abbrev Other : Refusal → Type 0
 Other r = r ≡ Damaged → ⊥
 
 refused-safe : (m : Machine) (ok : Ok m) (me : ThreadNumber) (r : Refusal) → Other r → Safe m (ok .ghost) me (refusedOf m r)
-refused-safe m ok me r other = record { ok = ok; moved = rw (refused-has-no-effect m me .1) refl; not-eight = λ e. other (cc e) }
+refused-safe m ok me r other = record { ok = ok; moved = subst (λ e. Moved e (ok .ghost) (me .0) (ok .ghost) × AsideAfter e (isAside (threadAt m (me .0) .place)) (isAside (threadAt m (me .0) .place))) (sym (refused-has-no-effect m me .1)) (refl, refl); not-eight = λ e. other (cc e) }
 
 -- ── a step ──
 
@@ -193,6 +193,9 @@ begin-safe m ok me tin call = pick-both (Safe m (ok .ghost) me) (isIdle (threadA
     within : me .0 < length (m .threads)
     within = omega (arith, good-count (m .count) (ok .good) .1, ok .sized .threads)
 
+    began-at : threadAt (beganOf m (me .0) call .machine) (me .0) .place ≡ firstPlace call
+    began-at = ap (λ s. s .th (me .0) .place) (thread-stored m (me .0) (placedOf (threadAt m (me .0)) (firstPlace call)) within) ∙ ap (λ x. x .place) (upd-same (threadAt m) (me .0) (placedOf (threadAt m (me .0)) (firstPlace call)))
+
     began : threadAt m (me .0) .place ≡ Idle → mayBegin call (threadAt m (me .0) .holding) ≡ true → Safe m (ok .ghost) me (beganOf m (me .0) call)
     began idle may = record {
       ok = record {
@@ -201,7 +204,7 @@ begin-safe m ok me tin call = pick-both (Safe m (ok .ghost) me) (isIdle (threadA
         ghost = ok .ghost;
         inv = rw (thread-stored m (me .0) (placedOf (threadAt m (me .0)) (firstPlace call)) within) (begins (m .count) (lockOf m) (ok .ghost) (ok .inv) (me .0) tin idle call may);
       };
-      moved = stood me (ok .ghost) (threadAt m (me .0) .place) Idle idle refl _;
+      moved = subst (λ p. Went me (threadAt m (me .0) .place) (ok .ghost) p (ok .ghost)) (sym began-at) (stood me (ok .ghost) _ Idle idle refl (firstPlace call) (near call));
       not-eight = λ e. let bad : _≡_ {A = ℕ} 0 1 = cc in omega arith;
     }
 

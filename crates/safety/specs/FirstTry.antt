@@ -46,16 +46,16 @@ module _ (n : ℕ) (s : Lock) (g : Ghost) (i : Inv n s g) (me : ThreadNumber) (t
     on-to q o a needs leaves = hop n s g i (me .0) tin is-first q o a (never needs) (rw (leaves, told)) (rw told (never refl))
 
     judged : (blocking : Bool) (r : ReadLocked) → Kept n s g me k (tryReadBy (lookAt s me k mark fails) blocking (s .word) r)
-    judged blocking (To to) = kept-still n s g me k _ _ g (stood me g _ p here unmoved _) (on-to (TryReadCas blocking (s .word)) (is-off _ _ _ _) nothing refl refl)
-    judged true Refused = kept-still n s g me k _ _ g (stood me g _ p here unmoved _) (on-to (ContendLoad false 0) (is-off _ _ _ _) nothing refl refl)
-    judged false Refused = kept-still n s g me k _ _ g (stood me g _ p here unmoved _) (on-to Idle (is-off _ _ _ _) tt refl refl)
+    judged blocking (To to) = kept-still n s g me k _ _ g (stood me g _ p here unmoved _ refl) (on-to (TryReadCas blocking (s .word)) (is-off _ _ _ _) nothing refl refl)
+    judged true Refused = kept-still n s g me k _ _ g (stood me g _ p here unmoved _ refl) (on-to (ContendLoad false 0) (is-off _ _ _ _) nothing refl refl)
+    judged false Refused = kept-still n s g me k _ _ g (stood me g _ p here unmoved _ refl) (on-to Idle (is-off _ _ _ _) tt refl refl)
 
   pub kept-try-read-load : (blocking : Bool) → s .th (me .0) .place ≡ TryReadLoad blocking → Goes n s g me mark fails k (λ v. tryReadLoadOf v blocking)
   kept-try-read-load blocking here = judged (TryReadLoad blocking) here refl refl blocking (readLockOf (s .word))
 
   at-end : (p : Place) → s .th (me .0) .place ≡ p → still p ≡ true → (blocking : Bool) (w : Word) (h : Holding) → Inv n (moved s (me .0) w (record { place = Idle; token = s .th (me .0) .token; holding = h }) (s .nd)) g → Kept n s g me k (writes (lookAt s me k mark fails) w h (granted blocking))
-  at-end p here unmoved true w h j = kept-still n s g me k _ _ g (stood me g _ p here unmoved _) j
-  at-end p here unmoved false w h j = kept-still n s g me k _ _ g (stood me g _ p here unmoved _) j
+  at-end p here unmoved true w h j = kept-still n s g me k _ _ g (stood me g _ p here unmoved _ refl) j
+  at-end p here unmoved false w h j = kept-still n s g me k _ _ g (stood me g _ p here unmoved _ refl) j
 
   pub kept-try-read-cas : (blocking : Bool) (seen : Word) → s .th (me .0) .place ≡ TryReadCas blocking seen → Goes n s g me mark fails k (λ v. tryReadCasOf v blocking seen)
   kept-try-read-cas blocking seen here = pick-both (Kept n s g me k) (agreesOf (lookAt s me k mark fails) seen) _ _ (λ e. by (agreed (lookAt s me k mark fails) seen e) (readLockOf seen) refl) (λ _. again)
@@ -71,5 +71,5 @@ module _ (n : ℕ) (s : Lock) (g : Ghost) (i : Inv n s g) (me : ThreadNumber) (t
   kept-try-write-or blocking here = pick-both (Kept n s g me k) (locked (s .word)) _ _ (λ e. held blocking) (λ e. at-end (TryWriteOr blocking) here refl blocking _ _ (finish n s g i (me .0) tin _ _ _ (ended-written n s g i (me .0) tin (is-first (TryWriteOr blocking) here refl refl) (nothing (TryWriteOr blocking) here refl refl) (no-leaver (TryWriteOr blocking) here refl refl) e)))
     where
       held : (b : Bool) → Kept n s g me k (stays (lookAt s me k mark fails) (tryWriteRefused b))
-      held true = kept-still n s g me k _ _ g (stood me g _ (TryWriteOr blocking) here refl _) (on-to (TryWriteOr blocking) here refl refl (ContendLoad true 0) (is-off _ _ _ _) (nothing (TryWriteOr blocking) here refl refl) refl refl)
-      held false = kept-still n s g me k _ _ g (stood me g _ (TryWriteOr blocking) here refl _) (on-to (TryWriteOr blocking) here refl refl Idle (is-off _ _ _ _) tt refl refl)
+      held true = kept-still n s g me k _ _ g (stood me g _ (TryWriteOr blocking) here refl _ refl) (on-to (TryWriteOr blocking) here refl refl (ContendLoad true 0) (is-off _ _ _ _) (nothing (TryWriteOr blocking) here refl refl) refl refl)
+      held false = kept-still n s g me k _ _ g (stood me g _ (TryWriteOr blocking) here refl _ refl) (on-to (TryWriteOr blocking) here refl refl Idle (is-off _ _ _ _) tt refl refl)

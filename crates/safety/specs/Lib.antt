@@ -3,6 +3,7 @@ pub mod Invariant
 pub mod Told
 pub mod Beside
 pub mod Frames
+pub mod Lists
 pub mod Moves
 pub mod Kept
 pub mod Off
@@ -29,7 +30,6 @@ pub mod Steps
 pub mod Bridge
 pub mod Begins
 pub mod Events
-pub mod Lists
 pub mod Intervals
 pub mod Held
 pub mod Statements

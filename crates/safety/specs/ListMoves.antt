@@ -1,21 +1,31 @@
 -- How the lists of waiters change when the tickets move: by each effect as its name says, and in no other way. Assumes nothing.
 use Prim.Native.Nat.{ℕ, suc, _+_, _-_, _≤_, _<_}
-use mathlib.Core.Bool.{Bool}
+use mathlib.Core.Bool.{Bool, true, false}
 use mathlib.Core.List.{List, [], _∷_, _++_}
 use mathlib.Core.Logic.{_≢_}
-use mathlib.Core.Path.{_≡_, refl, sym, ap, _∙_, subst}
+use mathlib.Core.Path.{_≡_, refl, sym, ap, ap₂, _∙_, subst}
 use native.Mathlib.Omega.{arith}
+use Rattle.word.specs.Base.{pick}
 use Rattle.word.specs.Number.{node}
 use Rattle.word.specs.declared.number.NodeNumber.{NodeNumber}
 use Rattle.state.specs.declared.machine.Machine.{Machine}
+use Rattle.state.specs.Machine.{threadAt}
+use Rattle.state.specs.declared.answer.Reply.{Reply}
+use Rattle.state.specs.declared.answer.Reply.the-variants.{Accepted, Refused}
+use Rattle.listing.specs.Listing.{Listed, listed}
+use Rattle.lock.specs.Event.{eventOf}
+use Rattle.promises.specs.Theorems.{changes-little, refusal-changes-nothing}
 use Rattle.lock.specs.Effect.{QueueEffect, stands, registers, setsAside, restores, takesTail, takesAll, completes}
 use Rattle.queue.specs.Updates.{upd, upd-same, upd-other}
 use Rattle.queue.specs.Tickets.{Ghost, Span, Parts, oldest, nothing, whole, rest}
-use Rattle.safety.specs.Moves.{Moved}
-use Rattle.safety.specs.Events.{Ok, event-safe}
+use Rattle.safety.specs.Table.{waitOf}
+use Rattle.safety.specs.Lists.{isAside}
+use Rattle.safety.specs.Moves.{Moved, AsideAfter}
+use Rattle.safety.specs.Bridge.{nodeIn}
+use Rattle.safety.specs.Events.{Ok, Safe, event-safe}
 use Rattle.safety.specs.Intervals.{up, up-more, up-same, node-is}
 use Rattle.safety.specs.Held.{queue-is, held-is}
-use Rattle.safety.specs.Statements.{Event, after, effectIn, ListsAfter, Lists}
+use Rattle.safety.specs.Statements.{Event, after, effectIn, ListsAfter, Lists, Move}
 
 -- the tickets of the queue, and of an interval, oldest first
 abbrev pub queueList : Ghost → List NodeNumber
@@ -27,9 +37,29 @@ spanList log s = up log (s .beg) (s .end - s .beg)
 abbrev pub heldList : Ghost → ℕ → List NodeNumber
 heldList g u = spanList (g .log) (g .taken u)
 
+-- how the queue and what the thread holds change, set aside or not
+abbrev HeldAfter : QueueEffect → List NodeNumber → List NodeNumber → List NodeNumber → List NodeNumber → Type 0
+HeldAfter stands q h q′ h′ = (q′ ≡ q) × (h′ ≡ h)
+HeldAfter (registers k) q h q′ h′ = (q′ ≡ q ++ (k ∷ [])) × (h′ ≡ h)
+HeldAfter (setsAside k) q h q′ h′ = (q ≡ k ∷ q′) × (h ≡ []) × (h′ ≡ k ∷ [])
+HeldAfter (restores k) q h q′ h′ = (q′ ≡ k ∷ q) × (h ≡ k ∷ []) × (h′ ≡ [])
+HeldAfter (takesTail k) q h q′ h′ = (q′ ≡ q) × (h ≡ k ∷ []) × (h′ ≡ k ∷ [])
+HeldAfter takesAll q h q′ h′ = (q′ ≡ []) × (h ≡ []) × (h′ ≡ q)
+HeldAfter (completes k) q h q′ h′ = (q′ ≡ q) × (h ≡ k ∷ h′)
+
+-- what is held is on one list or on the other
+lists-apart : (e : QueueEffect) (q h q′ h′ : List NodeNumber) (a a′ : Bool) → AsideAfter e a a′ → HeldAfter e q h q′ h′ → ListsAfter e q (pick a h []) (pick a [] h) q′ (pick a′ h′ []) (pick a′ [] h′)
+lists-apart stands q h q′ h′ a a′ s m = rw s (m .0, ap (λ l. pick a l []) (m .1), ap (λ l. pick a [] l) (m .1))
+lists-apart (registers k) q h q′ h′ a a′ s m = rw (s .0, s .1) (m .0, refl, m .1)
+lists-apart (setsAside k) q h q′ h′ a a′ s m = rw (s .0, s .1) (m .0, refl, m .2, sym (m .1))
+lists-apart (restores k) q h q′ h′ a a′ s m = rw (s .0, s .1) (m .0, m .1, refl, m .2)
+lists-apart (takesTail k) q h q′ h′ a a′ s m = rw (s .0, s .1) (m .0, m .1, refl, refl, m .2)
+lists-apart takesAll q h q′ h′ a a′ s m = rw (s .0, s .1) (m .0, refl, m .1, m .2)
+lists-apart (completes k) q h q′ h′ a a′ s m = rw (s .0, s .1) (m .0, refl, m .1)
+
 module _ (g : Ghost) (wait : ℕ → Bool) (p : Parts g wait) (t : ℕ) where
-  pub record After (e : QueueEffect) (g′ : Ghost) : Type 0 where
-    pub moves : ListsAfter e (queueList g) (heldList g t) (queueList g′) (heldList g′ t)
+  record After (e : QueueEffect) (g′ : Ghost) : Type 0 where
+    pub moves : HeldAfter e (queueList g) (heldList g t) (queueList g′) (heldList g′ t)
     pub others : (u : ℕ) → u ≢ t → heldList g′ u ≡ heldList g u
 
   -- an interval of none, of one, and one's oldest apart
@@ -56,7 +86,7 @@ module _ (g : Ghost) (wait : ℕ → Bool) (p : Parts g wait) (t : ℕ) where
   held-older : (u : ℕ) → spanList (upd (g .log) (g .hi) (suc t)) (g .taken u) ≡ heldList g u
   held-older u = older (g .taken u .beg) (g .taken u .end - g .taken u .beg) (λ j x y. p .held u j x (omega arith) .0)
 
-  pub lists-after : (e : QueueEffect) (g′ : Ghost) → Moved e g t g′ → After e g′
+  lists-after : (e : QueueEffect) (g′ : Ghost) → Moved e g t g′ → After e g′
   lists-after stands g′ z = subst (After stands) (sym z) (record { moves = (refl, refl); others = λ u ne. refl })
   lists-after (registers k) g′ z = subst (After (registers k)) (sym (z .is)) (record {
     moves = (newest, held-older t);
@@ -95,19 +125,49 @@ module _ (g : Ghost) (wait : ℕ → Bool) (p : Parts g wait) (t : ℕ) where
     others = not-mine (rest g t);
   })
 
-pub event-lists : (m : Machine) → Ok m → (e : Event) → Lists m (after m e) (e .thread .0) (effectIn m e .queue)
+-- ── on the machine ──
+
+module _ (m : Machine) (ok : Ok m) where
+  abbrev asideNow : ℕ → Bool
+  asideNow u = isAside (threadAt m u .place)
+
+  pub lists-of : Lists m
+  lists-of = record {
+    queue = queueList (ok .ghost);
+    aside = λ u. pick (asideNow u) (heldList (ok .ghost) u) [];
+    wakes = λ u. pick (asideNow u) [] (heldList (ok .ghost) u);
+    queue-is = queue-is m ok;
+    aside-is = λ u. kept (asideNow u) (held-is m ok u);
+    wakes-is = λ u. given (asideNow u) (held-is m ok u);
+  }
+    where
+      kept : (a : Bool) {l : Listed} {h : List NodeNumber} → l ≡ listed h → pick a l (listed []) ≡ listed (pick a h [])
+      kept true e = e
+      kept false e = refl
+
+      given : (a : Bool) {l : Listed} {h : List NodeNumber} → l ≡ listed h → pick a (listed []) l ≡ listed (pick a [] h)
+      given true e = refl
+      given false e = e
+
+pub event-lists : (m : Machine) → Ok m → (e : Event) → Move m (after m e) (e .thread .0) (effectIn m e .queue)
+unfolding lists-of
 event-lists m ok e =
-    let safe = event-safe m ok (e .thread) (e .code) in
-    let lists = lists-after (ok .ghost) _ (ok .inv .queue .parts) (e .thread .0) (effectIn m e .queue) (safe .ok .ghost) (safe .moved) in
     record {
-      queue = queueList (ok .ghost);
-      queue′ = queueList (safe .ok .ghost);
-      held = heldList (ok .ghost);
-      held′ = heldList (safe .ok .ghost);
-      queue-is = queue-is m ok;
-      queue-is′ = queue-is (after m e) (safe .ok);
-      held-is = held-is m ok;
-      held-is′ = held-is (after m e) (safe .ok);
-      moves = lists .moves;
-      others = lists .others;
+      before = lists-of m ok;
+      after = lists-of (after m e) (safe .ok);
+      own = lists-apart (effectIn m e .queue) _ _ _ _ _ _ (safe .moved .1) (held .moves);
+      others = λ u ne. (ap₂ (λ a l. pick a l []) (same-place u ne) (held .others u ne), ap₂ (λ a l. pick a [] l) (same-place u ne) (held .others u ne));
     }
+  where
+    safe : Safe m (ok .ghost) (e .thread) (eventOf m (e .code) (e .thread))
+    safe = event-safe m ok (e .thread) (e .code)
+
+    held : After (ok .ghost) (waitOf (threadAt m) (nodeIn (m .nodes))) (ok .inv .queue .parts) (e .thread .0) (effectIn m e .queue) (event-safe m ok (e .thread) (e .code) .ok .ghost)
+    held = lists-after (ok .ghost) _ (ok .inv .queue .parts) (e .thread .0) (effectIn m e .queue) (event-safe m ok (e .thread) (e .code) .ok .ghost) (event-safe m ok (e .thread) (e .code) .moved .0)
+
+    same-place : (u : ℕ) → u ≢ e .thread .0 → isAside (threadAt (after m e) u .place) ≡ isAside (threadAt m u .place)
+    same-place u ne = by (eventOf m (e .code) (e .thread) .reply) refl
+      where
+        by : (r : Reply) → eventOf m (e .code) (e .thread) .reply ≡ r → isAside (threadAt (after m e) u .place) ≡ isAside (threadAt m u .place)
+        by (Accepted a w) f = ap isAside (changes-little m (e .code) (e .thread) a w f .places u ne)
+        by (Refused r) f = ap (λ x. isAside (threadAt x u .place)) (refusal-changes-nothing m (e .code) (e .thread) r f)

@@ -95,3 +95,10 @@ isAside WriteUnlockCas = false
 isAside (ReleaseCas _) = false
 isAside DowngradeCas = false
 isAside (DowngradeSlowCas _) = false
+
+-- so it is on the thread's set-aside list, or on its waker's list
+abbrev pub asideIn : Machine → Place → Listed
+asideIn m p = pick (isAside p) (heldIn m p) (listed [])
+
+abbrev pub wakesIn : Machine → Place → Listed
+wakesIn m p = pick (isAside p) (listed []) (heldIn m p)

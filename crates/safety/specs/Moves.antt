@@ -14,6 +14,7 @@ use Rattle.state.specs.declared.place.Place.the-variants.{Idle, TryReadLoad, Tr
 use Rattle.lock.specs.Effect.{QueueEffect, stands, registers, setsAside, restores, takesTail, takesAll, completes, elsewhere, standOf, queueEffect}
 use Rattle.queue.specs.Tests.{never}
 use Rattle.queue.specs.Tickets.{Ghost, registered, asided, restored, took, completed}
+use Rattle.safety.specs.Lists.{isAside}
 
 -- ── the moves ──
 
@@ -63,9 +64,19 @@ Moved (takesTail k) g t g′ = TakesTail g t (k .0) g′
 Moved takesAll g t g′ = TakesAll g t g′
 Moved (completes k) g t g′ = Completes g t (k .0) g′
 
+-- whether what thread t holds is set aside, before and after
+abbrev pub AsideAfter : QueueEffect → Bool → Bool → Type 0
+AsideAfter stands a a′ = a′ ≡ a
+AsideAfter (registers k) a a′ = (a ≡ false) × (a′ ≡ false)
+AsideAfter (setsAside k) a a′ = (a ≡ false) × (a′ ≡ true)
+AsideAfter (restores k) a a′ = (a ≡ true) × (a′ ≡ false)
+AsideAfter (takesTail k) a a′ = (a ≡ true) × (a′ ≡ false)
+AsideAfter takesAll a a′ = (a ≡ false) × (a′ ≡ false)
+AsideAfter (completes k) a a′ = (a ≡ false) × (a′ ≡ false)
+
 -- a step of thread me from place p to place p′ moves the tickets by its effect
 abbrev pub Went : ThreadNumber → Place → Ghost → Place → Ghost → Type 0
-Went me p g p′ g′ = Moved (queueEffect me p (standOf p′)) g (me .0) g′
+Went me p g p′ g′ = Moved (queueEffect me p (standOf p′)) g (me .0) g′ × AsideAfter (queueEffect me p (standOf p′)) (isAside p) (isAside p′)
 
 -- ── the places that move no ticket ──
 
@@ -100,102 +111,102 @@ still DowngradeCas = true
 still (DowngradeSlowCas _) = false
 
 module _ (me : ThreadNumber) (g : Ghost) where
-  stood-at : (p p′ : Place) → still p ≡ true → Went me p g p′ g
+  stood-at : (p p′ : Place) → still p ≡ true → isAside p′ ≡ false → Went me p g p′ g
   unfolding queueEffect
-  stood-at Idle p′ e = refl
-  stood-at (TryReadLoad _) p′ e = refl
-  stood-at (TryReadCas _ _) p′ e = refl
-  stood-at (TryWriteOr _) p′ e = refl
-  stood-at (ContendLoad _ _) p′ e = refl
-  stood-at (ContendCas _ _ _) p′ e = refl
-  stood-at (RegisterCas _ _ _) p′ e = never refl e
-  stood-at (CompletedLoad _) p′ e = refl
-  stood-at (Park _) p′ e = refl
-  stood-at (WalkTail _ _ _) p′ e = refl
-  stood-at (WalkNext _ _ _) p′ e = refl
-  stood-at (WalkPrev _ _ _ _) p′ e = refl
-  stood-at (WalkHead _ _ _) p′ e = refl
-  stood-at (QueueCas _ _) p′ e = refl
-  stood-at (SplitPrev _ _ _) p′ e = refl
-  stood-at (SplitStore _ _ _ _) p′ e = never refl e
-  stood-at (SplitCas _ _ _) p′ e = never refl e
-  stood-at (SplitRestore _ _ _ _) p′ e = never refl e
-  stood-at (TakeCas _ _ _) p′ e = never refl e
-  stood-at (WakePrev _ _) p′ e = refl
-  stood-at (WakeStore _ _ _) p′ e = never refl e
-  stood-at ReadUnlockLoad p′ e = refl
-  stood-at (ReadUnlockCas _) p′ e = refl
-  stood-at (Subtract _ _) p′ e = refl
-  stood-at WriteUnlockCas p′ e = refl
-  stood-at (ReleaseCas _) p′ e = refl
-  stood-at DowngradeCas p′ e = refl
-  stood-at (DowngradeSlowCas _) p′ e = never refl e
+  stood-at Idle p′ e f = (refl, f)
+  stood-at (TryReadLoad _) p′ e f = (refl, f)
+  stood-at (TryReadCas _ _) p′ e f = (refl, f)
+  stood-at (TryWriteOr _) p′ e f = (refl, f)
+  stood-at (ContendLoad _ _) p′ e f = (refl, f)
+  stood-at (ContendCas _ _ _) p′ e f = (refl, f)
+  stood-at (RegisterCas _ _ _) p′ e f = never refl e
+  stood-at (CompletedLoad _) p′ e f = (refl, f)
+  stood-at (Park _) p′ e f = (refl, f)
+  stood-at (WalkTail _ _ _) p′ e f = (refl, f)
+  stood-at (WalkNext _ _ _) p′ e f = (refl, f)
+  stood-at (WalkPrev _ _ _ _) p′ e f = (refl, f)
+  stood-at (WalkHead _ _ _) p′ e f = (refl, f)
+  stood-at (QueueCas _ _) p′ e f = (refl, f)
+  stood-at (SplitPrev _ _ _) p′ e f = (refl, f)
+  stood-at (SplitStore _ _ _ _) p′ e f = never refl e
+  stood-at (SplitCas _ _ _) p′ e f = never refl e
+  stood-at (SplitRestore _ _ _ _) p′ e f = never refl e
+  stood-at (TakeCas _ _ _) p′ e f = never refl e
+  stood-at (WakePrev _ _) p′ e f = (refl, f)
+  stood-at (WakeStore _ _ _) p′ e f = never refl e
+  stood-at ReadUnlockLoad p′ e f = (refl, f)
+  stood-at (ReadUnlockCas _) p′ e f = (refl, f)
+  stood-at (Subtract _ _) p′ e f = (refl, f)
+  stood-at WriteUnlockCas p′ e f = (refl, f)
+  stood-at (ReleaseCas _) p′ e f = (refl, f)
+  stood-at DowngradeCas p′ e f = (refl, f)
+  stood-at (DowngradeSlowCas _) p′ e f = never refl e
 
   module _ (q : Place) where
-    pub stood : (p : Place) → q ≡ p → still p ≡ true → (p′ : Place) → Went me q g p′ g
-    stood p here e p′ = subst (λ x. Went me x g p′ g) (sym here) (stood-at p p′ e)
+    pub stood : (p : Place) → q ≡ p → still p ≡ true → (p′ : Place) → isAside p′ ≡ false → Went me q g p′ g
+    stood p here e p′ f = subst (λ x. Went me x g p′ g) (sym here) (stood-at p p′ e f)
 
     -- ── and those that may ──
 
-    pub unregistered : (writer : Bool) (reloads : ℕ) (seen : Word) → q ≡ RegisterCas writer reloads seen → (p′ : Place) → standOf p′ ≡ elsewhere → Went me q g p′ g
+    pub unregistered : (writer : Bool) (reloads : ℕ) (seen : Word) → q ≡ RegisterCas writer reloads seen → (p′ : Place) → standOf p′ ≡ elsewhere → isAside p′ ≡ false → Went me q g p′ g
     unfolding queueEffect
-    unregistered writer reloads seen here p′ e = rw (here, e) refl
+    unregistered writer reloads seen here p′ e f = rw (here, e) (refl, f)
 
     pub registers-waits : (writer w : Bool) (reloads : ℕ) (seen : Word) → q ≡ RegisterCas writer reloads seen → Went me q g (CompletedLoad w) (registered g (suc (me .0)))
     unfolding queueEffect standOf
-    registers-waits writer w reloads seen here = subst (λ x. Went me x g (CompletedLoad w) (registered g (suc (me .0)))) (sym here) (record { node = sym (add-one (me .0)); is = refl })
+    registers-waits writer w reloads seen here = subst (λ x. Went me x g (CompletedLoad w) (registered g (suc (me .0)))) (sym here) (record { node = sym (add-one (me .0)); is = refl }, (refl, refl))
 
     pub registers-walks : (writer : Bool) (reloads : ℕ) (seen : Word) (k : Walk) (to : Word) (current : NodeNumber) → q ≡ RegisterCas writer reloads seen → Went me q g (WalkTail k to current) (registered g (suc (me .0)))
     unfolding queueEffect standOf
-    registers-walks writer reloads seen k to current here = subst (λ x. Went me x g (WalkTail k to current) (registered g (suc (me .0)))) (sym here) (record { node = sym (add-one (me .0)); is = refl })
+    registers-walks writer reloads seen k to current here = subst (λ x. Went me x g (WalkTail k to current) (registered g (suc (me .0)))) (sym here) (record { node = sym (add-one (me .0)); is = refl }, (refl, refl))
 
     pub sets-aside : (who : Who) (seen : Word) (tail prev : NodeNumber) → q ≡ SplitStore who seen tail prev → (g′ : Ghost) → SetsAside g (me .0) (tail .0) g′ → Went me q g (SplitCas who seen tail) g′
     unfolding queueEffect standOf
-    sets-aside who seen tail prev here g′ m = subst (λ x. Went me x g (SplitCas who seen tail) g′) (sym here) m
+    sets-aside who seen tail prev here g′ m = subst (λ x. Went me x g (SplitCas who seen tail) g′) (sym here) (m, (refl, refl))
 
     pub takes-tail : (who : Who) (seen : Word) (tail prev : NodeNumber) → q ≡ SplitCas who seen tail → TakesTail g (me .0) (tail .0) g → Went me q g (WakeStore who tail prev) g
     unfolding queueEffect standOf
-    takes-tail who seen tail prev here m = subst (λ x. Went me x g (WakeStore who tail prev) g) (sym here) m
+    takes-tail who seen tail prev here m = subst (λ x. Went me x g (WakeStore who tail prev) g) (sym here) (m, (refl, refl))
 
     pub split-fails : (who : Who) (seen reported : Word) (tail : NodeNumber) → q ≡ SplitCas who seen tail → Went me q g (SplitRestore who seen tail reported) g
     unfolding queueEffect standOf
-    split-fails who seen reported tail here = subst (λ x. Went me x g (SplitRestore who seen tail reported) g) (sym here) refl
+    split-fails who seen reported tail here = subst (λ x. Went me x g (SplitRestore who seen tail reported) g) (sym here) (refl, refl)
 
     pub restores-tail : (who : Who) (seen reported : Word) (tail : NodeNumber) → q ≡ SplitRestore who seen tail reported → (k : Walk) (to : Word) (current : NodeNumber) (g′ : Ghost) → Restores g (me .0) (tail .0) g′ → Went me q g (WalkTail k to current) g′
     unfolding queueEffect standOf
-    restores-tail who seen reported tail here k to current g′ m = subst (λ x. Went me x g (WalkTail k to current) g′) (sym here) m
+    restores-tail who seen reported tail here k to current g′ m = subst (λ x. Went me x g (WalkTail k to current) g′) (sym here) (m, (refl, refl))
 
     pub takes-all : (who : Who) (seen : Word) (tail : NodeNumber) → q ≡ TakeCas who seen tail → (g′ : Ghost) → TakesAll g (me .0) g′ → Went me q g (WakePrev who tail) g′
     unfolding queueEffect standOf
-    takes-all who seen tail here g′ m = subst (λ x. Went me x g (WakePrev who tail) g′) (sym here) m
+    takes-all who seen tail here g′ m = subst (λ x. Went me x g (WakePrev who tail) g′) (sym here) (m, (refl, refl))
 
     pub take-fails : (who : Who) (seen : Word) (tail : NodeNumber) → q ≡ TakeCas who seen tail → (k : Walk) (to : Word) (current : NodeNumber) → Went me q g (WalkTail k to current) g
     unfolding queueEffect standOf
-    take-fails who seen tail here k to current = subst (λ x. Went me x g (WalkTail k to current) g) (sym here) refl
+    take-fails who seen tail here k to current = subst (λ x. Went me x g (WalkTail k to current) g) (sym here) (refl, refl)
 
     pub downgrade-takes : (seen : Word) → q ≡ DowngradeSlowCas seen → (k : Walk) (to : Word) (current : NodeNumber) (g′ : Ghost) → TakesAll g (me .0) g′ → Went me q g (WalkTail k to current) g′
     unfolding queueEffect standOf
-    downgrade-takes seen here k to current g′ m = subst (λ x. Went me x g (WalkTail k to current) g′) (sym here) m
+    downgrade-takes seen here k to current g′ m = subst (λ x. Went me x g (WalkTail k to current) g′) (sym here) (m, (refl, refl))
 
     pub downgrade-ends : (seen : Word) → q ≡ DowngradeSlowCas seen → Went me q g Idle g
     unfolding queueEffect standOf
-    downgrade-ends seen here = subst (λ x. Went me x g Idle g) (sym here) refl
+    downgrade-ends seen here = subst (λ x. Went me x g Idle g) (sym here) (refl, refl)
 
     pub downgrade-fails : (seen to : Word) → q ≡ DowngradeSlowCas seen → Went me q g (DowngradeSlowCas to) g
     unfolding queueEffect standOf
-    downgrade-fails seen to here = subst (λ x. Went me x g (DowngradeSlowCas to) g) (sym here) refl
+    downgrade-fails seen to here = subst (λ x. Went me x g (DowngradeSlowCas to) g) (sym here) (refl, refl)
 
     pub completes-more : (who : Who) (current prev : NodeNumber) → q ≡ WakeStore who current prev → (g′ : Ghost) → Completes g (me .0) (current .0) g′ → Went me q g (WakePrev who prev) g′
     unfolding queueEffect standOf
-    completes-more who current prev here g′ m = subst (λ x. Went me x g (WakePrev who prev) g′) (sym here) m
+    completes-more who current prev here g′ m = subst (λ x. Went me x g (WakePrev who prev) g′) (sym here) (m, (refl, refl))
 
     pub completes-waits : (who : Who) (writer : Bool) (current prev : NodeNumber) → q ≡ WakeStore who current prev → (g′ : Ghost) → Completes g (me .0) (current .0) g′ → Went me q g (CompletedLoad writer) g′
     unfolding queueEffect standOf
-    completes-waits who writer current prev here g′ m = subst (λ x. Went me x g (CompletedLoad writer) g′) (sym here) m
+    completes-waits who writer current prev here g′ m = subst (λ x. Went me x g (CompletedLoad writer) g′) (sym here) (m, (refl, refl))
 
     pub completes-ends : (who : Who) (current prev : NodeNumber) → q ≡ WakeStore who current prev → (g′ : Ghost) → Completes g (me .0) (current .0) g′ → Went me q g Idle g′
     unfolding queueEffect standOf
-    completes-ends who current prev here g′ m = subst (λ x. Went me x g Idle g′) (sym here) m
+    completes-ends who current prev here g′ m = subst (λ x. Went me x g Idle g′) (sym here) (m, (refl, refl))
 
 -- the three places that contend tell nothing of what was done
 pub contend-elsewhere : (writer : Bool) (reloads : ℕ) (seen : Word) → (standOf (ContendLoad writer reloads) ≡ elsewhere) × (standOf (ContendCas writer reloads seen) ≡ elsewhere) × (standOf (RegisterCas writer reloads seen) ≡ elsewhere)

@@ -29,6 +29,7 @@ use Rattle.safety.specs.Table.{handsOff, lookKind, About, waiter, owning
 use Rattle.safety.specs.Invariant.{readers, writers, leavers, Count, Real, wakes, Newest, queueOf, Inv}
 use Rattle.safety.specs.Beside.{owned, real-hands-off}
 use Rattle.safety.specs.Frames.{moved, waits-as, view, summed, land}
+use Rattle.safety.specs.Lists.{isAside}
 use Rattle.safety.specs.Moves.{stood}
 use Rattle.safety.specs.Kept.{lookAt, Kept, kept-still, placed, Goes}
 use Rattle.safety.specs.On.{alike-own, unlinked, stroll}
@@ -151,7 +152,7 @@ module _ (n : ℕ) (s : Lock) (g : Ghost) (i : Inv n s g) (me : ThreadNumber) (t
       by false d f = never refl f
 
   pub kept-queue-cas : s .th (me .0) .place ≡ QueueCas who seen → Goes n s g me mark fails (suc (me .0)) (λ v. queueCasOf v who seen)
-  kept-queue-cas here = pick-both (Kept n s g me (suc (me .0))) (agreesOf (lookAt s me (suc (me .0)) mark fails) seen) _ _ (λ e. clears who refl (agreed (lookAt s me (suc (me .0)) mark fails) seen e)) (λ _. kept-still n s g me (suc (me .0)) _ _ g (stood me g _ (QueueCas who seen) here refl _) (again none (handsOff seen) is (put-down (rw is refl))))
+  kept-queue-cas here = pick-both (Kept n s g me (suc (me .0))) (agreesOf (lookAt s me (suc (me .0)) mark fails) seen) _ _ (λ e. clears who refl (agreed (lookAt s me (suc (me .0)) mark fails) seen e)) (λ _. kept-still n s g me (suc (me .0)) _ _ g (stood me g _ (QueueCas who seen) here refl _ refl) (again none (handsOff seen) is (put-down (rw is refl))))
     where
       is : aboutAt s (me .0) ≡ owning who seen none (handsOff seen)
       is = ap about here
@@ -163,5 +164,9 @@ module _ (n : ℕ) (s : Lock) (g : Ghost) (i : Inv n s g) (me : ThreadNumber) (t
       ends (Waiter writer) z same = unown none (handsOff seen) is (CompletedLoad writer) (record { owner = refl; reader = refl; registered = ap waiter z; asleep = refl; unfilled = refl; ok = refl; leaves = refl; needsQueue = refl; may = λ h. h }) (ap downgraded same ∙ flags .1) (put-down (rw is refl)) (λ e. never e (ap locked same ∙ flags .0))
       ends Leaver z same = unown none (handsOff seen) is Idle (record { owner = refl; reader = refl; registered = ap waiter z; asleep = refl; unfilled = refl; ok = refl; leaves = refl; needsQueue = refl; may = λ h. tt }) (ap downgraded same ∙ flags .1) (put-down (rw is refl)) (λ e. never e (ap locked same ∙ flags .0))
 
+      near : (o : Who) → isAside (afterQueue o .place) ≡ false
+      near (Waiter writer) = refl
+      near Leaver = refl
+
       clears : (o : Who) → o ≡ who → s .word ≡ seen → Kept n s g me (suc (me .0)) (writes (lookAt s me (suc (me .0)) mark fails) (clearQueueLocked seen) (s .th (me .0) .holding) (afterQueue o))
-      clears o z same = kept-still n s g me (suc (me .0)) _ _ g (stood me g _ (QueueCas who seen) here refl _) (subst (λ x. Inv n (moved s (me .0) (clearQueueLocked x) (placed (s .th (me .0)) (afterQueue o .place)) (s .nd)) g) same (ends o z same))
+      clears o z same = kept-still n s g me (suc (me .0)) _ _ g (stood me g _ (QueueCas who seen) here refl _ (near o)) (subst (λ x. Inv n (moved s (me .0) (clearQueueLocked x) (placed (s .th (me .0)) (afterQueue o .place)) (s .nd)) g) same (ends o z same))

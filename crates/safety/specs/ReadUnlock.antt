@@ -101,10 +101,10 @@ module _ (n : ℕ) (s : Lock) (g : Ghost) (i : Inv n s g) (me : ThreadNumber) (t
 
       by : (q d b : Bool) → queued (s .word) ≡ q → downgraded (s .word) ≡ d → ltb (s .word .0) (SINGLE + LOCKED) ≡ b →
           Kept n s g me k (readUnlockBy (lookAt s me k mark fails) (s .word) (pick q (pick d (To (clearLocked (clearDowngraded (s .word)))) Contended) (pick b Refused (To (fewer (s .word))))))
-      by true true b q d e = kept-still n s g me k _ _ g (stood me g _ p here unmoved _) on
-      by true false b q d e = kept-still n s g me k _ _ g (stood me g _ p here unmoved _) (walks q d)
+      by true true b q d e = kept-still n s g me k _ _ g (stood me g _ p here unmoved _ refl) on
+      by true false b q d e = kept-still n s g me k _ _ g (stood me g _ p here unmoved _ refl) (walks q d)
       by false d′ true q d e = absurd (enough q e)
-      by false d′ false q d e = kept-still n s g me k _ _ g (stood me g _ p here unmoved _) on
+      by false d′ false q d e = kept-still n s g me k _ _ g (stood me g _ p here unmoved _ refl) on
 
   -- ── the compare ──
 
@@ -162,10 +162,10 @@ module _ (n : ℕ) (s : Lock) (g : Ghost) (i : Inv n s g) (me : ThreadNumber) (t
     where
       by : (q d b : Bool) → queued (s .word) ≡ q → downgraded (s .word) ≡ d → ltb (s .word .0) (SINGLE + LOCKED) ≡ b →
           Kept n s g me k (readUnlockCasBy (lookAt s me k mark fails) (pick q (pick d (To (clearLocked (clearDowngraded (s .word)))) Contended) (pick b Refused (To (fewer (s .word))))))
-      by true true b q d e = kept-still n s g me k _ _ g (stood me g _ p here unmoved _) (finish n s g i (me .0) tin down _ _ (retracted q d))
+      by true true b q d e = kept-still n s g me k _ _ g (stood me g _ p here unmoved _ refl) (finish n s g i (me .0) tin down _ _ (retracted q d))
       by true false b q d e = judged
       by false d′ true q d e = judged
-      by false d′ false q d e = kept-still n s g me k _ _ g (stood me g _ p here unmoved _) (finish n s g i (me .0) tin down _ _ (left-word q))
+      by false d′ false q d e = kept-still n s g me k _ _ g (stood me g _ p here unmoved _ refl) (finish n s g i (me .0) tin down _ _ (left-word q))
 
 module _ (n : ℕ) (s : Lock) (g : Ghost) (i : Inv n s g) (me : ThreadNumber) (tin : me .0 < n) (mark : Mark) (fails : Bool) (k : ℕ) where
   pub kept-read-unlock-load : s .th (me .0) .place ≡ ReadUnlockLoad → Goes n s g me mark fails k (λ v. readUnlockLoadOf v)

@@ -52,7 +52,7 @@ unfolding ran registrations
 made-in m made r [] = r
 made-in m made r (e ∷ es) =
     let safe = event-safe m (r .ok) (e .thread) (e .code) in
-    made-in (after m e) (registering (effectIn m e .queue) made) (record { ok = safe .ok; is = ap (registering (effectIn m e .queue)) (r .is) ∙ registering-is (effectIn m e .queue) (r .ok .ghost) (e .thread .0) (safe .ok .ghost) (safe .moved) }) es
+    made-in (after m e) (registering (effectIn m e .queue) made) (record { ok = safe .ok; is = ap (registering (effectIn m e .queue)) (r .is) ∙ registering-is (effectIn m e .queue) (r .ok .ghost) (e .thread .0) (safe .ok .ghost) (safe .moved .0) }) es
 
 pub listing-made : (m : Machine) (made : List NodeNumber) → Made m made → Listing m made
 listing-made m made r = record {

@@ -47,8 +47,8 @@ writer-counts n s t l h = omega (arith, sum-le n (λ u. writesOf (s .th u .holdi
 module _ (n : ℕ) (s : Lock) (g : Ghost) (i : Inv n s g) (me : ThreadNumber) (tin : me .0 < n) (mark : Mark) (fails : Bool) (k : ℕ) where
   pub kept-write-unlock-cas : s .th (me .0) .place ≡ WriteUnlockCas → Goes n s g me mark fails k (λ v. writeUnlockCasOf v)
   kept-write-unlock-cas here = pick-both (Kept n s g me k) (eqb (s .word .0) LOCKED) _ _
-      (λ e. kept-still n s g me k _ _ g (stood me g _ WriteUnlockCas here refl _) (finish n s g i (me .0) tin down (word 0) _ (released (eqb-true (s .word .0) LOCKED e))))
-      (λ e. kept-still n s g me k _ _ g (stood me g _ WriteUnlockCas here refl _) (hop n s g i (me .0) tin down (ReleaseCas (s .word)) (is-off _ _ _ _) (holds .reads) (λ _. has-queue (eqb-false (s .word .0) LOCKED e)) (rw (is, holds .reads, holds .writes)) (rw is (never refl))))
+      (λ e. kept-still n s g me k _ _ g (stood me g _ WriteUnlockCas here refl _ refl) (finish n s g i (me .0) tin down (word 0) _ (released (eqb-true (s .word .0) LOCKED e))))
+      (λ e. kept-still n s g me k _ _ g (stood me g _ WriteUnlockCas here refl _ refl) (hop n s g i (me .0) tin down (ReleaseCas (s .word)) (is-off _ _ _ _) (holds .reads) (λ _. has-queue (eqb-false (s .word .0) LOCKED e)) (rw (is, holds .reads, holds .writes)) (rw is (never refl))))
     where
       is : aboutAt s (me .0) ≡ off writes false false false
       is = ap about here
@@ -182,10 +182,10 @@ module _ (n : ℕ) (s : Lock) (g : Ghost) (i : Inv n s g) (me : ThreadNumber) (t
     succeeds = by (queueLocked (s .word)) refl
       where
         by : (l : Bool) → queueLocked (s .word) ≡ l → Kept n s g me k (writesTo (lookAt s me k mark fails) (pick l (clearLocked (s .word)) (setQueueLocked (clearLocked (s .word)))) (releasedWrite (s .th (me .0) .holding)) (pick l (end Done) (walkFrom (Queue Leaver) (pick l (clearLocked (s .word)) (setQueueLocked (clearLocked (s .word)))))))
-        by true e = kept-still n s g me k _ _ g (stood me g _ (ReleaseCas seen) here refl _) (finish n s g i (me .0) tin down _ _ (left-to-owner e))
-        by false e = kept-still n s g me k _ _ g (stood me g _ (ReleaseCas seen) here refl _) (owns e)
+        by true e = kept-still n s g me k _ _ g (stood me g _ (ReleaseCas seen) here refl _ refl) (finish n s g i (me .0) tin down _ _ (left-to-owner e))
+        by false e = kept-still n s g me k _ _ g (stood me g _ (ReleaseCas seen) here refl _ refl) (owns e)
 
   pub kept-release-cas : (seen : Word) → s .th (me .0) .place ≡ ReleaseCas seen → Goes n s g me mark fails k (λ v. releaseCasOf v seen)
   kept-release-cas seen here = pick-both (Kept n s g me k) (agreesOf (lookAt s me k mark fails) seen) _ _
       (λ e. subst (λ x. Kept n s g me k (writesTo (lookAt s me k mark fails) (releasedTo x) (releasedWrite (s .th (me .0) .holding)) (afterRelease x (releasedTo x)))) (agreed (lookAt s me k mark fails) seen e) (succeeds seen here))
-      (λ _. kept-still n s g me k _ _ g (stood me g _ (ReleaseCas seen) here refl _) (hop n s g i (me .0) tin (down seen here) (ReleaseCas (s .word)) (is-off _ _ _ _) (reads-not seen here) (λ _. has-queue seen here) (rw (is seen here)) (rw (is seen here) (never refl))))
+      (λ _. kept-still n s g me k _ _ g (stood me g _ (ReleaseCas seen) here refl _ refl) (hop n s g i (me .0) tin (down seen here) (ReleaseCas (s .word)) (is-off _ _ _ _) (reads-not seen here) (λ _. has-queue seen here) (rw (is seen here)) (rw (is seen here) (never refl))))

@@ -57,8 +57,8 @@ module _ (n : ℕ) (s : Lock) (g : Ghost) (i : Inv n s g) (me : ThreadNumber) (t
 
   pub kept-split-prev : s .th (me .0) .place ≡ SplitPrev who seen tail → Goes n s g me mark fails (tail .0) (λ v. splitPrevOf v who seen tail)
   kept-split-prev here = pick-both (Kept n s g me (tail .0)) (isNone (s .nd (tail .0) .prev)) _ _
-      (λ e. kept-still n s g me (tail .0) _ _ g (stood me g _ (SplitPrev who seen tail) here refl _) (on-to _ (head changes (toNode seen .0) (tail .0)) _ (not (handsOff seen)) is (TakeCas who seen tail) refl refl (rw (flags .0)) (Q.turn g (queueOf s) (i .queue) (me .0) (head changes (toNode seen .0) (tail .0)) (rw is at (i .queue .know (me .0))) (never refl))))
-      (λ e. kept-still n s g me (tail .0) _ _ g (stood me g _ (SplitPrev who seen tail) here refl _) (on-to _ (split (toNode seen .0) (tail .0) (s .nd (tail .0) .prev .0)) _ (unheld seen) is (SplitStore who seen tail (s .nd (tail .0) .prev)) refl refl (rw is at (i .fits (me .0))) (Q.load-split g (queueOf s) (i .queue) (me .0) (toNode seen .0) (tail .0) (ap (λ a. a .role) is) (eqb-false (s .nd (tail .0) .prev .0) 0 e))))
+      (λ e. kept-still n s g me (tail .0) _ _ g (stood me g _ (SplitPrev who seen tail) here refl _ refl) (on-to _ (head changes (toNode seen .0) (tail .0)) _ (not (handsOff seen)) is (TakeCas who seen tail) refl refl (rw (flags .0)) (Q.turn g (queueOf s) (i .queue) (me .0) (head changes (toNode seen .0) (tail .0)) (rw is at (i .queue .know (me .0))) (never refl))))
+      (λ e. kept-still n s g me (tail .0) _ _ g (stood me g _ (SplitPrev who seen tail) here refl _ refl) (on-to _ (split (toNode seen .0) (tail .0) (s .nd (tail .0) .prev .0)) _ (unheld seen) is (SplitStore who seen tail (s .nd (tail .0) .prev)) refl refl (rw is at (i .fits (me .0))) (Q.load-split g (queueOf s) (i .queue) (me .0) (toNode seen .0) (tail .0) (ap (λ a. a .role) is) (eqb-false (s .nd (tail .0) .prev .0) 0 e))))
     where
       is : aboutAt s (me .0) ≡ owning who seen (head changes (toNode seen .0) (tail .0)) (unheld seen)
       is = ap about here

@@ -9,7 +9,7 @@ use mathlib.Core.Logic.{_≢_, _⊎_}
 use mathlib.Core.Path.{_≡_}
 use lib.ListN.{take}
 use Rattle.word.specs.Flags.{LOCKED, SINGLE, queued, downgraded}
-use Rattle.word.specs.Number.{thread, nodeOf}
+use Rattle.word.specs.Number.{none, thread, nodeOf}
 use Rattle.word.specs.declared.number.NodeNumber.{NodeNumber}
 use Rattle.word.specs.declared.number.ThreadNumber.{ThreadNumber}
 use Rattle.state.specs.Access.{accessOf, touchedOf}
@@ -23,13 +23,14 @@ use Rattle.state.specs.declared.machine.Machine.{Machine}
 use Rattle.state.specs.declared.place.Place.the-variants.{Idle, Park}
 use Rattle.lock.specs.Effect.{LockEffect, keeps, grantsRead, grantsWrite, releasesRead, releasesWrite, downgrades, QueueEffect, stands, registers, setsAside, restores, takesTail, takesAll, completes, Effect, effectOf}
 use Rattle.lock.specs.Event.{eventOf}
+use Rattle.lock.specs.Step.{markedOf}
 use Rattle.schedule.specs.Whole.{fileReplayOf}
 use Rattle.schedule.specs.declared.whole.FileStop.the-variants.{Refused as FileStopped}
 use Rattle.listing.specs.Listing.{Listed, lost, listed, nodeBy, listedOf, waitersOf}
 use Rattle.listing.specs.ReaderCount.{oldest, readersOf}
 use Rattle.queue.specs.Updates.{upd}
 use Rattle.safety.specs.Table.{about}
-use Rattle.safety.specs.Lists.{queueIn, heldIn, isAside}
+use Rattle.safety.specs.Lists.{queueIn, asideIn, wakesIn}
 
 -- ── runs ──
 
@@ -152,41 +153,44 @@ pub record Listing (m : Machine) (made : List NodeNumber) : Type 0 where
 abbrev pub ListingTotal : Type 0
 ListingTotal = (n : ℕ) (es : List Event) → Listing (reached n es) (registrations (freshOf n .machine) es [])
 
--- a list that exists
-abbrev pub Is : Listed → List NodeNumber → Type 0
-Is l ns = l ≡ listed ns
+-- how the queue, what the thread has set aside and what it is to wake, each oldest first, change by an effect
+abbrev pub ListsAfter : QueueEffect → List NodeNumber → List NodeNumber → List NodeNumber → List NodeNumber → List NodeNumber → List NodeNumber → Type 0
+ListsAfter stands q a w q′ a′ w′ = (q′ ≡ q) × (a′ ≡ a) × (w′ ≡ w)
+ListsAfter (registers k) q a w q′ a′ w′ = (q′ ≡ q ++ (k ∷ [])) × (a′ ≡ a) × (w′ ≡ w)
+ListsAfter (setsAside k) q a w q′ a′ w′ = (q ≡ k ∷ q′) × (a ≡ []) × (a′ ≡ k ∷ []) × (w′ ≡ w)
+ListsAfter (restores k) q a w q′ a′ w′ = (q′ ≡ k ∷ q) × (a ≡ k ∷ []) × (a′ ≡ []) × (w′ ≡ w)
+ListsAfter (takesTail k) q a w q′ a′ w′ = (q′ ≡ q) × (a ≡ k ∷ []) × (a′ ≡ []) × (w ≡ []) × (w′ ≡ k ∷ [])
+ListsAfter takesAll q a w q′ a′ w′ = (q′ ≡ []) × (a′ ≡ a) × (w ≡ []) × (w′ ≡ q)
+ListsAfter (completes k) q a w q′ a′ w′ = (q′ ≡ q) × (a′ ≡ a) × (w ≡ k ∷ w′)
 
--- how the queue, oldest first, and what the thread has taken off it, oldest first, change by an effect
-abbrev pub ListsAfter : QueueEffect → List NodeNumber → List NodeNumber → List NodeNumber → List NodeNumber → Type 0
-ListsAfter stands q h q′ h′ = (q′ ≡ q) × (h′ ≡ h)
-ListsAfter (registers k) q h q′ h′ = (q′ ≡ q ++ (k ∷ [])) × (h′ ≡ h)
-ListsAfter (setsAside k) q h q′ h′ = (q ≡ k ∷ q′) × (h ≡ []) × (h′ ≡ k ∷ [])
-ListsAfter (restores k) q h q′ h′ = (q′ ≡ k ∷ q) × (h ≡ k ∷ []) × (h′ ≡ [])
-ListsAfter (takesTail k) q h q′ h′ = (q′ ≡ q) × (h ≡ k ∷ []) × (h′ ≡ k ∷ [])
-ListsAfter takesAll q h q′ h′ = (q′ ≡ []) × (h ≡ []) × (h′ ≡ q)
-ListsAfter (completes k) q h q′ h′ = (q′ ≡ q) × (h ≡ k ∷ h′)
-
--- the lists before and after an event of thread t: all are there; the queue's and t's change by the effect; everybody else's stays
-pub record Lists (m m′ : Machine) (t : ℕ) (e : QueueEffect) : Type 0 where
+-- a machine's lists: all are there
+pub record Lists (m : Machine) : Type 0 where
   pub queue : List NodeNumber
-  pub queue′ : List NodeNumber
-  pub held : ℕ → List NodeNumber
-  pub held′ : ℕ → List NodeNumber
-  pub queue-is : Is (queueIn m) queue
-  pub queue-is′ : Is (queueIn m′) queue′
-  pub held-is : (u : ℕ) → Is (heldIn m (threadAt m u .place)) (held u)
-  pub held-is′ : (u : ℕ) → Is (heldIn m′ (threadAt m′ u .place)) (held′ u)
-  pub moves : ListsAfter e queue (held t) queue′ (held′ t)
-  pub others : (u : ℕ) → u ≢ t → held′ u ≡ held u
+  pub aside : ℕ → List NodeNumber
+  pub wakes : ℕ → List NodeNumber
+  pub queue-is : queueIn m ≡ listed queue
+  pub aside-is : (u : ℕ) → asideIn m (threadAt m u .place) ≡ listed (aside u)
+  pub wakes-is : (u : ℕ) → wakesIn m (threadAt m u .place) ≡ listed (wakes u)
+
+-- the queue's and thread t's change by the effect of its event; everybody else's stay
+pub record Move (m m′ : Machine) (t : ℕ) (e : QueueEffect) : Type 0 where
+  pub before : Lists m
+  pub after : Lists m′
+  pub own : ListsAfter e (before .queue) (before .aside t) (before .wakes t) (after .queue) (after .aside t) (after .wakes t)
+  pub others : (u : ℕ) → u ≢ t → (after .aside u ≡ before .aside u) × (after .wakes u ≡ before .wakes u)
 
 abbrev pub ListsMove : Type 0
-ListsMove = (n : ℕ) (es : List Event) (e : Event) → Lists (reached n es) (after (reached n es) e) (e .thread .0) (effectIn (reached n es) e .queue)
+ListsMove = (n : ℕ) (es : List Event) (e : Event) → Move (reached n es) (after (reached n es) e) (e .thread .0) (effectIn (reached n es) e .queue)
 
 -- a registered thread whose node is not completed
 pub record Waiter (m : Machine) (t : ℕ) : Type 0 where
   pub below : t < m .count
   pub registered : about (threadAt m t .place) .registered ≡ true
   pub uncompleted : nodeAt m t .completed ≡ false
+
+-- the node of one
+abbrev pub Waits : Machine → NodeNumber → Type 0
+Waits m k = (u : ℕ) × (k ≡ nodeOf (thread u)) × Waiter m u
 
 -- where it may be: in the queue, set aside by a thread, on a waker's list
 pub data Spot : Type 0 where
@@ -200,8 +204,8 @@ In k (listed ns) = List·Memᴰ k ns
 
 abbrev pub At : Machine → NodeNumber → Spot → Type 0
 At m k queue = In k (listedOf m)
-At m k (aside t) = (isAside (threadAt m t .place) ≡ true) × In k (heldIn m (threadAt m t .place))
-At m k (waker t) = (isAside (threadAt m t .place) ≡ false) × In k (heldIn m (threadAt m t .place))
+At m k (aside t) = In k (asideIn m (threadAt m t .place))
+At m k (waker t) = In k (wakesIn m (threadAt m t .place))
 
 pub record OneSpot (m : Machine) (k : NodeNumber) : Type 0 where
   pub spot : Spot
@@ -211,7 +215,7 @@ pub record OneSpot (m : Machine) (k : NodeNumber) : Type 0 where
 -- each waiter is in exactly one of them, and nobody else is in any
 abbrev pub OnePlace : Type 0
 OnePlace =
-    (n : ℕ) (es : List Event) → ((t : ℕ) → Waiter (reached n es) t → OneSpot (reached n es) (nodeOf (thread t))) × ((k : NodeNumber) (s : Spot) → At (reached n es) k s → (t : ℕ) × (k ≡ nodeOf (thread t)) × Waiter (reached n es) t)
+    (n : ℕ) (es : List Event) → ((t : ℕ) → Waiter (reached n es) t → OneSpot (reached n es) (nodeOf (thread t))) × ((k : NodeNumber) (s : Spot) → At (reached n es) k s → Waits (reached n es) k)
 
 -- ── nobody is left asleep ──
 
@@ -229,10 +233,10 @@ NobodyStuck =
 abbrev pub NeverEight : Type 0
 NeverEight = (n : ℕ) (es : List Event) (e : Event) → eventOf (reached n es) (e .code) (e .thread) .reply ≢ Refused Damaged
 
--- the node that a thread's next step touches is its own, or that of a thread that is registered and not completed
+-- the node that a thread's next step accesses is its own or a waiter's; and a waiter's is the tail whose writer mark its local code reads, if any
 abbrev pub TouchedAlive : Type 0
 TouchedAlive =
-    (n : ℕ) (es : List Event) (t : ThreadNumber) → (touchedOf (accessOf t (threadAt (reached n es) (t .0) .place)) t ≡ nodeOf t) ⊎ ((u : ℕ) × (touchedOf (accessOf t (threadAt (reached n es) (t .0) .place)) t ≡ nodeOf (thread u)) × Waiter (reached n es) u)
+    (n : ℕ) (es : List Event) (t : ThreadNumber) → ((touchedOf (accessOf t (threadAt (reached n es) (t .0) .place)) t ≡ nodeOf t) ⊎ Waits (reached n es) (touchedOf (accessOf t (threadAt (reached n es) (t .0) .place)) t)) × ((markedOf (threadAt (reached n es) (t .0) .place) ≡ none) ⊎ Waits (reached n es) (markedOf (threadAt (reached n es) (t .0) .place)))
 
 -- ── a replayed file ──
 

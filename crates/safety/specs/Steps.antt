@@ -8,7 +8,7 @@ use native.Mathlib.Omega.{arith}
 use lib.Dec.{ltb}
 use borrow.Author.Tests.{le-ltb}
 use Rattle.word.specs.Cases.{pick-no}
-use Rattle.word.specs.Number.{slotOf}
+use Rattle.word.specs.Number.{none, slotOf}
 use Rattle.word.specs.declared.flags.Word.{Word}
 use Rattle.word.specs.declared.number.NodeNumber.{NodeNumber}
 use Rattle.word.specs.declared.number.Slot.the-variants.{Outside, At}
@@ -22,7 +22,7 @@ use Rattle.state.specs.declared.place.Place.the-variants.{Idle, TryReadLoad, Tr
 use Rattle.state.specs.declared.view.Mark.{Mark}
 use Rattle.state.specs.declared.view.Mark.the-variants.{Missing}
 use Rattle.lock.specs.Advance.{advanceOf}
-use Rattle.lock.specs.Step.{haltedOf}
+use Rattle.lock.specs.Step.{haltedOf, markedOf}
 use Rattle.queue.specs.Tickets.{Ghost}
 use Rattle.queue.specs.Reads.{All, Waits, named-wait}
 use Rattle.safety.specs.Table.{about, Lock, waitOf}
@@ -84,6 +84,38 @@ module _ (n : ℕ) (s : Lock) (g : Ghost) (i : Inv n s g) where
   touches me (ReleaseCas _) here = inl refl
   touches me DowngradeCas here = inl refl
   touches me (DowngradeSlowCas _) here = inl refl
+
+  -- the tail whose writer mark is read waits too
+  pub marks : (t : ℕ) (p : Place) → s .th t .place ≡ p → (markedOf p ≡ none) ⊎ Waiting (markedOf p .0)
+  unfolding markedOf
+  marks t Idle here = inl refl
+  marks t (TryReadLoad _) here = inl refl
+  marks t (TryReadCas _ _) here = inl refl
+  marks t (TryWriteOr _) here = inl refl
+  marks t (ContendLoad _ _) here = inl refl
+  marks t (ContendCas _ _ _) here = inl refl
+  marks t (RegisterCas _ _ _) here = inl refl
+  marks t (CompletedLoad _) here = inl refl
+  marks t (Park _) here = inl refl
+  marks t (WalkTail _ _ _) here = inl refl
+  marks t (WalkNext _ _ _) here = inl refl
+  marks t (WalkPrev _ _ _ _) here = inl refl
+  marks t (WalkHead k seen tail) here = inr (names t (WalkHead k seen tail) here .1)
+  marks t (QueueCas _ _) here = inl refl
+  marks t (SplitPrev _ _ _) here = inl refl
+  marks t (SplitStore _ _ _ _) here = inl refl
+  marks t (SplitCas _ _ _) here = inl refl
+  marks t (SplitRestore _ _ _ _) here = inl refl
+  marks t (TakeCas _ _ _) here = inl refl
+  marks t (WakePrev _ _) here = inl refl
+  marks t (WakeStore _ _ _) here = inl refl
+  marks t ReadUnlockLoad here = inl refl
+  marks t (ReadUnlockCas _) here = inl refl
+  marks t (Subtract _ _) here = inl refl
+  marks t WriteUnlockCas here = inl refl
+  marks t (ReleaseCas _) here = inl refl
+  marks t DowngradeCas here = inl refl
+  marks t (DowngradeSlowCas _) here = inl refl
 
   -- a node that waits has a slot
   pub slot-waiting : (k : NodeNumber) → Waiting (k .0) → (j : ℕ) × (slotOf k n ≡ At j)

@@ -139,5 +139,5 @@ module _ (n : ℕ) (s : Lock) (g : Ghost) (i : Inv n s g) (me : ThreadNumber) (t
   kept-subtract = pick-both (Kept n s g me (tail .0)) (ltb (s .nd (tail .0) .next .0) SINGLE) _ _
       (λ e. omega (arith, reading .some, enough, ltb-true (s .nd (tail .0) .next .0) SINGLE e))
       (λ _. pick-both (λ x. Kept n s g me (tail .0) (subtracts (lookAt s me (tail .0) mark fails) (withNext (s .nd (tail .0)) less) (releasedRead (s .th (me .0) .holding)) x)) (eqb (s .nd (tail .0) .next .0 - SINGLE) 0) _ _
-      (λ e. (g, subtract (ReleaseCas seen) (is-off _ _ _ _) refl (inr (omega (arith, reading .some, enough, eqb-true (s .nd (tail .0) .next .0 - SINGLE) 0 e), refl)), stood me g _ (Subtract seen tail) here refl _))
-      (λ e. (g, subtract Idle (is-off _ _ _ _) tt (inl (omega (arith, reading .some, enough, eqb-false (s .nd (tail .0) .next .0 - SINGLE) 0 e), refl)), stood me g _ (Subtract seen tail) here refl _)))
+      (λ e. (g, subtract (ReleaseCas seen) (is-off _ _ _ _) refl (inr (omega (arith, reading .some, enough, eqb-true (s .nd (tail .0) .next .0 - SINGLE) 0 e), refl)), stood me g _ (Subtract seen tail) here refl _ refl))
+      (λ e. (g, subtract Idle (is-off _ _ _ _) tt (inl (omega (arith, reading .some, enough, eqb-false (s .nd (tail .0) .next .0 - SINGLE) 0 e), refl)), stood me g _ (Subtract seen tail) here refl _ refl)))

@@ -5,18 +5,18 @@ use mathlib.Core.Logic.{_⊎_, inl, inr}
 use mathlib.Core.Path.{_≡_, refl, sym, ap, _∙_, subst}
 use native.Mathlib.Decide.{decLt}
 use native.Mathlib.Omega.{arith}
-use Rattle.word.specs.Number.{thread, nodeOf}
-use Rattle.state.specs.Access.{accessOf, touchedOf}
+use Rattle.word.specs.Number.{none, nodeOf}
+use Rattle.word.specs.declared.number.NodeNumber.{NodeNumber}
 use Rattle.state.specs.Machine.{threadAt, freshOf}
 use Rattle.state.specs.declared.machine.Machine.{Machine}
 use Rattle.queue.specs.Sums.{sum-zero}
 use Rattle.safety.specs.Invariant.{readers}
 use Rattle.safety.specs.Wake.{waiter-of}
-use Rattle.safety.specs.Steps.{Waiting, touches}
+use Rattle.safety.specs.Steps.{Waiting, touches, marks}
 use Rattle.safety.specs.Bridge.{lockOf}
 use Rattle.safety.specs.Events.{Ok, event-safe}
 use Rattle.safety.specs.Intervals.{down, node-is}
-use Rattle.safety.specs.Statements.{ReplayedSafe, OnePlace, ListsMove, ListingTotal, ReaderCount, registrations, reached, holdersOf, Plainly, PlainLock, MutualExclusion, Waiter, NobodyStuck, NeverEight, TouchedAlive}
+use Rattle.safety.specs.Statements.{Waits, ReplayedSafe, OnePlace, ListsMove, ListingTotal, ReaderCount, registrations, reached, holdersOf, Plainly, PlainLock, MutualExclusion, NobodyStuck, NeverEight, TouchedAlive}
 use Rattle.safety.specs.Runs.{start, reached-ok}
 use Rattle.safety.specs.Plain.{whose, run-allowed}
 use Rattle.safety.specs.Spots.{waiter-is, one-spot, spot-waits}
@@ -36,7 +36,7 @@ pub mutual-exclusion : MutualExclusion
 mutual-exclusion n es = whose (reached n es) (reached-ok n es)
 
 pub touched-alive : TouchedAlive
-touched-alive n es t = by (touches (m .count) (lockOf m) (ok .ghost) (ok .inv) t (threadAt m (t .0) .place) refl)
+touched-alive n es t = (accessed (touches (m .count) (lockOf m) (ok .ghost) (ok .inv) t (threadAt m (t .0) .place) refl), read (marks (m .count) (lockOf m) (ok .ghost) (ok .inv) (t .0) (threadAt m (t .0) .place) refl))
   where
     m : Machine
     m = reached n es
@@ -44,9 +44,16 @@ touched-alive n es t = by (touches (m .count) (lockOf m) (ok .ghost) (ok .inv) t
     ok : Ok (reached n es)
     ok = reached-ok n es
 
-    by : (touchedOf (accessOf t (threadAt (reached n es) (t .0) .place)) t .0 ≡ t .0 + 1) ⊎ Waiting (reached n es .count) (lockOf (reached n es)) (ok .ghost) (ok .inv) (touchedOf (accessOf t (threadAt (reached n es) (t .0) .place)) t .0) → (touchedOf (accessOf t (threadAt (reached n es) (t .0) .place)) t ≡ nodeOf t) ⊎ ((u : ℕ) × (touchedOf (accessOf t (threadAt (reached n es) (t .0) .place)) t ≡ nodeOf (thread u)) × Waiter (reached n es) u)
-    by (inl e) = inl (node-is _ _ e)
-    by (inr w) = let x = waiter-is (reached n es) ok _ (waiter-of (lockOf (reached n es)) _ w) in inr (x .0, x .1, x .2)
+    waits : (k : NodeNumber) → Waiting (reached n es .count) (lockOf (reached n es)) (ok .ghost) (ok .inv) (k .0) → Waits (reached n es) k
+    waits k w = waiter-is (reached n es) ok (k .0) (waiter-of (lockOf (reached n es)) (k .0) w)
+
+    accessed : {k : NodeNumber} → (k .0 ≡ t .0 + 1) ⊎ Waiting (reached n es .count) (lockOf (reached n es)) (ok .ghost) (ok .inv) (k .0) → (k ≡ nodeOf t) ⊎ Waits (reached n es) k
+    accessed {k} (inl e) = inl (node-is k (t .0 + 1) e)
+    accessed {k} (inr w) = inr (waits k w)
+
+    read : {k : NodeNumber} → (k ≡ none) ⊎ Waiting (reached n es .count) (lockOf (reached n es)) (ok .ghost) (ok .inv) (k .0) → (k ≡ none) ⊎ Waits (reached n es) k
+    read {k} (inl e) = inl e
+    read {k} (inr w) = inr (waits k w)
 
 pub nobody-stuck : NobodyStuck
 nobody-stuck n es all t writer l = nobody-asleep (reached n es .count) (lockOf (reached n es)) (reached-ok n es .ghost) (reached-ok n es .inv) (λ u. rests u (decLt u (reached n es .count))) t writer

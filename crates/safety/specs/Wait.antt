@@ -74,10 +74,10 @@ module _ (n : ℕ) (s : Lock) (g : Ghost) (i : Inv n s g) (me : ThreadNumber) (t
 
   pub kept-completed-load : (writer : Bool) → s .th (me .0) .place ≡ CompletedLoad writer → Goes n s g me mark fails (suc (me .0)) (λ v. completedLoadOf v writer)
   kept-completed-load writer here = pick-both (Kept n s g me (suc (me .0))) (s .nd (suc (me .0)) .completed) _ _
-      (λ e. kept-still n s g me (suc (me .0)) _ _ g (stood me g _ (CompletedLoad writer) here refl _) (starts-again false (ap about here) writer e))
-      (λ e. kept-still n s g me (suc (me .0)) _ _ g (stood me g _ (CompletedLoad writer) here refl _) (waits-on false (ap about here) (Park writer) _ true refl (λ _ d. never e d)))
+      (λ e. kept-still n s g me (suc (me .0)) _ _ g (stood me g _ (CompletedLoad writer) here refl _ refl) (starts-again false (ap about here) writer e))
+      (λ e. kept-still n s g me (suc (me .0)) _ _ g (stood me g _ (CompletedLoad writer) here refl _ refl) (waits-on false (ap about here) (Park writer) _ true refl (λ _ d. never e d)))
 
   pub kept-park : (writer : Bool) → s .th (me .0) .place ≡ Park writer → Goes n s g me mark fails (suc (me .0)) (λ v. parkOf v writer)
   kept-park writer here = pick-both (Kept n s g me (suc (me .0))) fails _ _
-      (λ e. kept-still n s g me (suc (me .0)) _ _ g (stood me g _ (Park writer) here refl _) (waits-on true (ap about here) (CompletedLoad writer) _ false refl (never refl)))
-      (λ e. kept-still n s g me (suc (me .0)) _ _ g (stood me g _ (Park writer) here refl _) (waits-on true (ap about here) (CompletedLoad writer) _ false refl (never refl)))
+      (λ e. kept-still n s g me (suc (me .0)) _ _ g (stood me g _ (Park writer) here refl _ refl) (waits-on true (ap about here) (CompletedLoad writer) _ false refl (never refl)))
+      (λ e. kept-still n s g me (suc (me .0)) _ _ g (stood me g _ (Park writer) here refl _ refl) (waits-on true (ap about here) (CompletedLoad writer) _ false refl (never refl)))

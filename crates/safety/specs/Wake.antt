@@ -198,7 +198,7 @@ module _ (n : ℕ) (few : n ≤ threadLimit) (s : Lock) (g : Ghost) (i : Inv n s
   pub kept-wake-prev : s .th (me .0) .place ≡ WakePrev who current → Goes n s g me mark fails (current .0) (λ v. wakePrevOf v who current)
   kept-wake-prev here =
       let at-wake : aboutAt s (me .0) ≡ waking who (wake (current .0)) = ap about here in
-      kept-still n s g me (current .0) _ _ g (stood me g _ (WakePrev who current) here refl _) (stroll n s g i (me .0) tin (WakeStore who current (s .nd (current .0) .prev)) (rw at-wake (alike-wake who _ _ refl)) (s .nd) (linksOf (s .nd)) (unlinked (s .nd)) (λ r. never refl)
+      kept-still n s g me (current .0) _ _ g (stood me g _ (WakePrev who current) here refl _ refl) (stroll n s g i (me .0) tin (WakeStore who current (s .nd (current .0) .prev)) (rw at-wake (alike-wake who _ _ refl)) (s .nd) (linksOf (s .nd)) (unlinked (s .nd)) (λ r. never refl)
       (Q.load-wake g (queueOf s) (i .queue) (me .0) (current .0) (ap (λ a. a .role) at-wake)))
 
   module _ (prev : NodeNumber) (here : s .th (me .0) .place ≡ WakeStore who current prev) where

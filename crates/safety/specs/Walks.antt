@@ -48,13 +48,13 @@ module _ (n : ℕ) (s : Lock) (g : Ghost) (i : Inv n s g) (me : ThreadNumber) (t
 
   pub kept-walk-tail : (k : Walk) (seen : Word) (current : NodeNumber) → s .th (me .0) .place ≡ WalkTail k seen current → Goes n s g me mark fails (current .0) (λ v. walkTailOf v k seen current)
   kept-walk-tail k seen current here = pick-both (Kept n s g me (current .0)) (isNone (s .nd (current .0) .tail)) _ _
-      (λ e. kept-still n s g me (current .0) _ _ g (stood me g _ (WalkTail k seen current) here refl _) (stroll n s g i (me .0) tin (WalkNext k seen current) (alike k seen _ _ (ap about here) (WalkNext k seen current) refl refl) (s .nd) (linksOf (s .nd)) (unlinked (s .nd)) (calm k seen _ _ (ap about here) (WalkNext k seen current) refl refl)
+      (λ e. kept-still n s g me (current .0) _ _ g (stood me g _ (WalkTail k seen current) here refl _ refl) (stroll n s g i (me .0) tin (WalkNext k seen current) (alike k seen _ _ (ap about here) (WalkNext k seen current) refl refl) (s .nd) (linksOf (s .nd)) (unlinked (s .nd)) (calm k seen _ _ (ap about here) (WalkNext k seen current) refl refl)
       (Q.load-none g (queueOf s) (i .queue) (me .0) (kindOf k seen) (toNode seen .0) (current .0) (ap (λ p. about p .role) here) (eqb-true (s .nd (current .0) .tail .0) 0 e))))
-      (λ e. kept-still n s g me (current .0) _ _ g (stood me g _ (WalkTail k seen current) here refl _) (stroll n s g i (me .0) tin (WalkHead k seen (s .nd (current .0) .tail)) (alike k seen _ _ (ap about here) (WalkHead k seen (s .nd (current .0) .tail)) refl refl) (s .nd) (linksOf (s .nd)) (unlinked (s .nd)) (calm k seen _ _ (ap about here) (WalkHead k seen (s .nd (current .0) .tail)) refl refl)
+      (λ e. kept-still n s g me (current .0) _ _ g (stood me g _ (WalkTail k seen current) here refl _ refl) (stroll n s g i (me .0) tin (WalkHead k seen (s .nd (current .0) .tail)) (alike k seen _ _ (ap about here) (WalkHead k seen (s .nd (current .0) .tail)) refl refl) (s .nd) (linksOf (s .nd)) (unlinked (s .nd)) (calm k seen _ _ (ap about here) (WalkHead k seen (s .nd (current .0) .tail)) refl refl)
       (Q.load-tail g (queueOf s) (i .queue) (me .0) (kindOf k seen) (toNode seen .0) (current .0) (ap (λ p. about p .role) here) (eqb-false (s .nd (current .0) .tail .0) 0 e))))
 
   pub kept-walk-next : (k : Walk) (seen : Word) (current : NodeNumber) → s .th (me .0) .place ≡ WalkNext k seen current → Goes n s g me mark fails (current .0) (λ v. walkNextOf v k seen current)
-  kept-walk-next k seen current here = kept-still n s g me (current .0) _ _ g (stood me g _ (WalkNext k seen current) here refl _) (stroll n s g i (me .0) tin (WalkPrev k seen current (toNode (s .nd (current .0) .next))) (alike k seen _ _ (ap about here) (WalkPrev k seen current (toNode (s .nd (current .0) .next))) refl refl) (s .nd) (linksOf (s .nd)) (unlinked (s .nd)) (calm k seen _ _ (ap about here) (WalkPrev k seen current (toNode (s .nd (current .0) .next))) refl refl)
+  kept-walk-next k seen current here = kept-still n s g me (current .0) _ _ g (stood me g _ (WalkNext k seen current) here refl _ refl) (stroll n s g i (me .0) tin (WalkPrev k seen current (toNode (s .nd (current .0) .next))) (alike k seen _ _ (ap about here) (WalkPrev k seen current (toNode (s .nd (current .0) .next))) refl refl) (s .nd) (linksOf (s .nd)) (unlinked (s .nd)) (calm k seen _ _ (ap about here) (WalkPrev k seen current (toNode (s .nd (current .0) .next))) refl refl)
       (Q.load-next g (queueOf s) (i .queue) (me .0) (kindOf k seen) (toNode seen .0) (current .0) (ap (λ p. about p .role) here)))
 
   -- who walks on the queue is its owner or a contended reader: nobody else changes it
@@ -70,7 +70,7 @@ module _ (n : ℕ) (s : Lock) (g : Ghost) (i : Inv n s g) (me : ThreadNumber) (t
     g,
     stroll n s g i (me .0) tin (WalkTail k seen next) (alike k seen _ _ (ap about here) (WalkTail k seen next) refl refl) (upd (s .nd) (next .0) (withPrev (s .nd (next .0)) current)) _ (linked-prev (s .nd) (next .0) current) (calm k seen _ _ (ap about here) (WalkTail k seen next) refl refl)
         (Q.store-prev g (queueOf s) (i .queue) (me .0) (kindOf k seen) (toNode seen .0) (current .0) (next .0) (ap (λ p. about p .role) here) (λ e. quiet-walk (ap (λ p. onQueue (about p .role)) here ∙ e))),
-    stood me g _ (WalkPrev k seen current next) here refl _,
+    stood me g _ (WalkPrev k seen current next) here refl _ refl,
   )
 
   -- ── the store of the tail in the head, and what the walk was for ──
@@ -103,16 +103,16 @@ module _ (n : ℕ) (s : Lock) (g : Ghost) (i : Inv n s g) (me : ThreadNumber) (t
 
       marked : handsOff seen ≡ false → (downgraded seen ≡ false → unheld seen ≡ true) → (m : Mark) → (m ≡ Missing → ⊥) → Kept n s g me (toNode seen .0) (markedBy (lookAt s me (toNode seen .0) mark fails) (withTail (s .nd (toNode seen .0)) tail) who seen tail m)
       marked e free Missing there = absurd (there refl)
-      marked e free Reader there = (g, changing e (TakeCas who seen tail) (not (handsOff seen)) refl (rw e), stood me g _ (WalkHead (Queue who) seen tail) here refl _)
+      marked e free Reader there = (g, changing e (TakeCas who seen tail) (not (handsOff seen)) refl (rw e), stood me g _ (WalkHead (Queue who) seen tail) here refl _ refl)
       marked e free Writer there = pick-both (Kept n s g me (toNode seen .0)) (downgraded seen) _ _
-          (λ d. (g, changing e (TakeCas who seen tail) (not (handsOff seen)) refl (rw e), stood me g _ (WalkHead (Queue who) seen tail) here refl _))
-          (λ d. (g, changing e (SplitPrev who seen tail) (unheld seen) refl (free d), stood me g _ (WalkHead (Queue who) seen tail) here refl _))
+          (λ d. (g, changing e (TakeCas who seen tail) (not (handsOff seen)) refl (rw e), stood me g _ (WalkHead (Queue who) seen tail) here refl _ refl))
+          (λ d. (g, changing e (SplitPrev who seen tail) (unheld seen) refl (free d), stood me g _ (WalkHead (Queue who) seen tail) here refl _ refl))
 
       pub kept-walk-head-queue : (mark ≡ Missing → ⊥) → Goes n s g me mark fails (toNode seen .0) (λ v. walkHeadOf v (Queue who) seen tail)
       kept-walk-head-queue there = pick-both (Kept n s g me (toNode seen .0)) (locked seen) _ _
           (λ l. pick-both (Kept n s g me (toNode seen .0)) (downgraded seen) _ _
           (λ d. marked (rw (l, d)) (λ z. never z d) mark there)
-          (λ d. (g, leaves (rw (l, d)), stood me g _ (WalkHead (Queue who) seen tail) here refl _)))
+          (λ d. (g, leaves (rw (l, d)), stood me g _ (WalkHead (Queue who) seen tail) here refl _ refl)))
           (λ l. marked (rw l) (λ z. rw (l, z)) mark there)
 
     pub kept-walk-head-reader : s .th (me .0) .place ≡ WalkHead ReadUnlock seen tail → Goes n s g me mark fails (toNode seen .0) (λ v. walkHeadOf v ReadUnlock seen tail)
@@ -120,7 +120,7 @@ module _ (n : ℕ) (s : Lock) (g : Ghost) (i : Inv n s g) (me : ThreadNumber) (t
       g,
       stroll n s g i (me .0) tin (Subtract seen tail) (alike ReadUnlock seen _ _ (ap about here) (Subtract seen tail) refl refl) nodes _ (linked-tail (s .nd) (toNode seen .0) tail) (calm ReadUnlock seen _ _ (ap about here) (Subtract seen tail) refl refl)
           (Q.store-tail g (queueOf s) (i .queue) (me .0) looks refl (toNode seen .0) (tail .0) (ap (λ p. about p .role) here)),
-      stood me g _ (WalkHead ReadUnlock seen tail) here refl _,
+      stood me g _ (WalkHead ReadUnlock seen tail) here refl _ refl,
     )
 
     -- a downgrade's own queue is now its list, oldest first
@@ -130,7 +130,7 @@ module _ (n : ℕ) (s : Lock) (g : Ghost) (i : Inv n s g) (me : ThreadNumber) (t
           g,
           stroll n s g i (me .0) tin (WakePrev Leaver tail) (rw is turned) nodes _ (linked-tail (s .nd) (toNode seen .0) tail) (λ x. never refl)
               (Q.store-alone g (queueOf s) (i .queue) (me .0) (toNode seen .0) (tail .0) (ap (λ a. a .role) is)),
-          stood me g _ (WalkHead Downgrade seen tail) here refl _,
+          stood me g _ (WalkHead Downgrade seen tail) here refl _ refl,
         )
       where
         turned : Alike (walking Downgrade seen (head alone (toNode seen .0) (tail .0))) (about (WakePrev Leaver tail))
