@@ -1,16 +1,11 @@
--- What the queue's invariant gives a reader: every node number that a role carries waits; who stands on the queue finds it not empty; the listing
--- reads the tickets off the links. Not here: the steps (Effects). Assumes nothing.
-use mathlib.Core.Path.{_≡_, refl, sym, ap, _∙_}
-use mathlib.Core.Logic.{_≢_, _⊎_, inl, inr}
+-- What the queue's invariant gives a reader: every node number that a role carries waits; who stands on the queue finds it not empty.
+-- Not here: the steps (Effects). Assumes nothing.
+use mathlib.Core.Path.{_≡_}
+use mathlib.Core.Logic.{_⊎_, inl, inr}
 use mathlib.Core.Bool.{true, false≢true}
-use mathlib.Core.List.{List, [], _∷_}
-use Prim.Native.Nat.{ℕ, zero, suc, _+_, _≤_, _<_}
+use Prim.Native.Nat.{ℕ, suc, _≤_, _<_}
 use native.Mathlib.Omega.{arith}
-use native.Mathlib.Nat.{add-suc, add-zero}
-use lib.Dec.{eqb}
-use borrow.Author.Tests.{eq-eqb, ne-eqb}
-use Rattle.word.specs.Base.{pick}
-use Rattle.queue.specs.Queue.{Links, linkOf, Part, Live, Queue, Walk, Full, Set}
+use Rattle.queue.specs.Queue.{Links, Part, Walk, Full}
 use Rattle.queue.specs.Tickets.{Ghost, queueOf, takenOf}
 use Rattle.queue.specs.Roles.{Kind, looks, changes, alone, Role, none, ready, walk, past, link, head, split, aside, undo, wake, store, on, PastAt, HeadAt, AsideAt, Know, onQueue}
 use Rattle.queue.specs.Effects.{St, Inv}
@@ -101,62 +96,3 @@ on-some q p l t (aside hd tail) e w = omega (arith, w .base, w .top)
 on-some q p l t (undo hd tail rp) e w = omega (arith, w .it .base, w .it .top)
 on-some q p l t (wake cu) e w = absurd (false≢true e)
 on-some q p l t (store cu prev) e w = absurd (false≢true e)
-
--- ── the listing: by next to the first node with a tail, then by next until on that tail; fuel bounds the visits ──
-
-pub data Listed : Type 0 where
-  refused : Listed
-  listed : List ℕ → Listed
-
-abbrev pub push : ℕ → Listed → Listed
-push k refused = refused
-push k (listed ks) = listed (k ∷ ks)
-
--- from node k until on node z
-unfoldable pub listTo : ℕ → Links → ℕ → ℕ → Listed
-listTo zero l z k = refused
-listTo (suc n) l z k = pick (eqb k z) (listed (k ∷ [])) (push k (listTo n l z (linkOf (l .nx k))))
-
--- from node k, no tail met yet
-unfoldable pub list : ℕ → Links → ℕ → Listed
-list zero l k = refused
-list (suc n) l k = pick (eqb (l .tl k) 0) (push k (list n l (linkOf (l .nx k)))) (listTo (suc n) l (l .tl k) k)
-
--- the nodes of the m tickets from lo + m - 1 down to lo
-abbrev pub nodes : Part → ℕ → List ℕ
-nodes q zero = []
-nodes q (suc m) = q .log (q .lo + m) ∷ nodes q m
-
-module _ (q : Part) (l : Links) (d : Live q) (v : Queue q l) where
-  down : (m : ℕ) → q .lo + suc m < q .hi → linkOf (l .nx (q .log (q .lo + suc m))) ≡ q .log (q .lo + m)
-  down m b = rw add-suc (v .next (q .lo + m) (omega arith) (omega arith))
-
-  -- a node without a tail is not the floor
-  strict : (i : ℕ) → i < q .hi → l .tl (q .log i) ≡ 0 → q .fl ≢ i
-  strict i b e z =
-      let s : q .lo < q .hi = omega (arith, v .base) in
-      d .some (q .lo) (omega arith) s (sym (v .floor s .0) ∙ ap (λ j. l .tl (q .log j)) z ∙ e)
-
-  list-to : (m n : ℕ) → m < n → q .lo + m < q .hi → listTo n l (q .log (q .lo)) (q .log (q .lo + m)) ≡ listed (nodes q (suc m))
-  unfolding listTo
-  list-to m zero a b = absurd (omega arith)
-  list-to zero (suc n) a b = rw (add-zero, eq-eqb (q .log (q .lo)) (q .log (q .lo)) refl)
-  list-to (suc m) (suc n) a b = rw (ne-eqb (q .log (q .lo + suc m)) (q .log (q .lo)) (d .apart (q .lo + suc m) (q .lo) (omega arith) b (omega arith) (omega arith) (λ e. omega arith)), down m b, list-to m n (omega arith) (omega arith))
-
-  -- a node at or above the floor lists all that is below it
-  pub list-from : (m n : ℕ) → m < n → q .lo + m < q .hi → q .fl ≤ q .lo + m → list n l (q .log (q .lo + m)) ≡ listed (nodes q (suc m))
-  unfolding list
-  list-from m zero a b f = absurd (omega arith)
-  list-from m (suc n) a b f = go (λ k. list-from k n) m (v .valid (q .lo + m) f b) a b f
-    where
-      set : (m : ℕ) → m < suc n → q .lo + m < q .hi → l .tl (q .log (q .lo + m)) ≡ q .log (q .lo) → list (suc n) l (q .log (q .lo + m)) ≡ listed (nodes q (suc m))
-      set m a b e = rw (e, ne-eqb (q .log (q .lo)) 0 (d .some (q .lo) (omega arith) (omega arith))) (list-to m (suc n) a b)
-
-      go : ((k : ℕ) → k < n → q .lo + k < q .hi → q .fl ≤ q .lo + k → list n l (q .log (q .lo + k)) ≡ listed (nodes q (suc k))) → (m : ℕ) → (l .tl (q .log (q .lo + m)) ≡ 0) ⊎ Set q l (q .lo + m) → m < suc n → q .lo + m < q .hi → q .fl ≤ q .lo + m → list (suc n) l (q .log (q .lo + m)) ≡ listed (nodes q (suc m))
-      go r m (inr k) a b f = set m a b (k .0)
-      go r zero (inl e) a b f = absurd (strict (q .lo + 0) b e (omega (arith, v .base)))
-      go r (suc m) (inl e) a b f = rw (eq-eqb (l .tl (q .log (q .lo + suc m))) 0 e, down m b, r m (omega arith) (omega arith) (omega (arith, strict (q .lo + suc m) b e)))
-
-  -- so the newest lists the queue
-  pub list-queue : (m n : ℕ) → m < n → suc (q .lo + m) ≡ q .hi → list n l (q .log (q .lo + m)) ≡ listed (nodes q (suc m))
-  list-queue m n a e = list-from m n a (omega arith) (omega (arith, v .span (omega arith)))

@@ -12,28 +12,25 @@ use Rattle.word.specs.Flags.{LOCKED, SINGLE, queued, downgraded}
 use Rattle.word.specs.declared.number.NodeNumber.{NodeNumber}
 use Rattle.state.specs.Holding.{readsOf, writesOf}
 use Rattle.state.specs.Machine.{goodCount, threadAt}
-use Rattle.state.specs.declared.answer.Reply.{Reply}
-use Rattle.state.specs.declared.answer.Reply.the-variants.{Accepted, Refused}
 use Rattle.state.specs.declared.answer.Verdict.the-variants.{Fine}
 use Rattle.state.specs.declared.holding.Holding.{Holding}
 use Rattle.state.specs.declared.holding.Holding.the-variants.{Nothing, Read, Write}
 use Rattle.state.specs.declared.machine.Machine.{Machine}
 use Rattle.lock.specs.Effect.{LockEffect, keeps, grantsRead, grantsWrite, releasesRead, releasesWrite, downgrades}
-use Rattle.lock.specs.Event.{eventOf}
 use Rattle.listing.specs.Listing.{Listed, lost, listed, nodeBy, listedOf}
 use Rattle.listing.specs.ReaderCount.{readsBelow, oldest, inOldestBy, heldOf, readersOf}
 use Rattle.listing.specs.declared.reader_count.Readers.{Readers}
-use Rattle.promises.specs.Theorems.{changes-little, refusal-changes-nothing}
 use Rattle.queue.specs.Updates.{upd, upd-same}
 use Rattle.queue.specs.Sums.{sum, sum-upd}
 use Rattle.queue.specs.Tickets.{Ghost}
-use Rattle.safety.specs.Invariant.{readers, writers, leavers, Unqueued, empty, written, read, Newest, Inv}
-use Rattle.safety.specs.Bridge.{lockOf}
-use Rattle.safety.specs.Events.{Ok, event-safe}
+use Rattle.invariant.specs.Invariant.{readers, writers, leavers, Unqueued, empty, written, read, Newest, Inv}
+use Rattle.invariant.specs.Bridge.{lockOf}
+use Rattle.invariant.specs.Events.{Ok, event-safe}
 use Rattle.safety.specs.Held.{listing-is}
 use Rattle.safety.specs.Intervals.{down, node-by}
 use Rattle.safety.specs.Members.{oldest-down}
 use Rattle.safety.specs.Plain.{within, event-allowed}
+use Rattle.safety.specs.Runs.{same-count}
 use Rattle.safety.specs.Statements.{Event, after, effectIn, ran, Holders, holdersOf, Allows, gained, given-up, tally, Counted}
 
 -- ── along a run ──
@@ -42,16 +39,9 @@ abbrev pub readersIn : Machine → ℕ
 readersIn m = readers (m .count) (lockOf m)
 
 module _ (m : Machine) (ok : Ok m) (e : Event) where
-  same-count : after m e .count ≡ m .count
-  same-count = by (eventOf m (e .code) (e .thread) .reply) refl
-    where
-      by : (r : Reply) → eventOf m (e .code) (e .thread) .reply ≡ r → after m e .count ≡ m .count
-      by (Accepted a w) f = changes-little m (e .code) (e .thread) a w f .count
-      by (Refused r) f = ap (λ x. x .count) (refusal-changes-nothing m (e .code) (e .thread) r f)
-
   -- the readers after it, by who holds what
   as-holders : (h : Holders) → holdersOf (after m e) ≡ h → readersIn (after m e) ≡ sum (m .count) (λ u. readsOf (h u))
-  as-holders h z = ap (λ n. sum n (λ u. readsOf (holdersOf (after m e) u))) same-count ∙ ap (λ f. sum (m .count) (λ u. readsOf (f u))) z
+  as-holders h z = ap (λ n. sum n (λ u. readsOf (holdersOf (after m e) u))) (same-count m e) ∙ ap (λ f. sum (m .count) (λ u. readsOf (f u))) z
 
   -- the thread's holding becomes x
   becomes : (x : Holding) → e .thread .0 < m .count → holdersOf (after m e) ≡ upd (holdersOf m) (e .thread .0) x → readersIn (after m e) + readsOf (holdersOf m (e .thread .0)) ≡ readersIn m + readsOf x
@@ -61,7 +51,7 @@ module _ (m : Machine) (ok : Ok m) (e : Event) where
   holds-within = within (m .count) (lockOf m) (ok .ghost) (ok .inv) (e .thread .0)
 
   held-within : 1 ≤ readsOf (holdersOf (after m e) (e .thread .0)) + writesOf (holdersOf (after m e) (e .thread .0)) → e .thread .0 < m .count
-  held-within l = let safe = event-safe m ok (e .thread) (e .code) in omega (arith, within (after m e .count) (lockOf (after m e)) (safe .ok .ghost) (safe .ok .inv) (e .thread .0) l, same-count)
+  held-within l = let safe = event-safe m ok (e .thread) (e .code) in omega (arith, within (after m e .count) (lockOf (after m e)) (safe .ok .ghost) (safe .ok .inv) (e .thread .0) l, same-count m e)
 
   own : (x : Holding) → holdersOf (after m e) ≡ upd (holdersOf m) (e .thread .0) x → holdersOf (after m e) (e .thread .0) ≡ x
   own x z = ap (λ h. h (e .thread .0)) z ∙ upd-same (holdersOf m) (e .thread .0) x

@@ -20,12 +20,12 @@ use Rattle.listing.specs.Listing.{Listed, listed, prepend, followedOf, listedOf
 use Rattle.queue.specs.Queue.{Part, Live, Links, Queue, Walk as Walks, Full}
 use Rattle.queue.specs.Tickets.{Ghost, Held, queueOf as ticketsOf, takenOf, live-queue, live-taken}
 use Rattle.queue.specs.Roles.{Know, Ground, AsideAt, WakeAt, StoreAt}
-use Rattle.safety.specs.Table.{handsOff, lookKind, about, linksOf, waitOf}
-use Rattle.safety.specs.Invariant.{Newest}
-use Rattle.safety.specs.Beside.{inside}
-use Rattle.safety.specs.Wake.{Waiter-of, waiter-of}
-use Rattle.safety.specs.Bridge.{nodeIn, lockOf}
-use Rattle.safety.specs.Events.{Ok}
+use Rattle.invariant.specs.Table.{handsOff, lookKind, about, linksOf, waitOf}
+use Rattle.invariant.specs.Invariant.{Newest}
+use Rattle.invariant.specs.Beside.{inside}
+use Rattle.invariant.specs.Wake.{Waiter-of, waiter-of}
+use Rattle.invariant.specs.Bridge.{nodeIn, lockOf}
+use Rattle.invariant.specs.Events.{Ok}
 use Rattle.safety.specs.Lists.{turned, queueIn, backFrom, walkedIn, heldIn}
 use Rattle.safety.specs.Intervals.{up, down, reverse-down, node-is, lists-all, few-tickets, Begins, goes-back}
 

@@ -18,8 +18,8 @@ use Rattle.state.specs.declared.machine.Machine.{Machine}
 use Rattle.listing.specs.Listing.{Listed, listed, prepend, within, nodeBy, linkOf, stand, toTail, toSet}
 use Rattle.queue.specs.Sums.{pigeon}
 use Rattle.queue.specs.Queue.{Part, Live, Queue, Mine, Set}
-use Rattle.safety.specs.Table.{linksOf}
-use Rattle.safety.specs.Bridge.{nodeIn}
+use Rattle.invariant.specs.Table.{linksOf}
+use Rattle.invariant.specs.Bridge.{nodeIn}
 use Rattle.safety.specs.Lists.{backFrom}
 
 -- k tickets from a on

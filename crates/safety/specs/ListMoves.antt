@@ -18,11 +18,11 @@ use Rattle.promises.specs.Theorems.{changes-little, refusal-changes-nothing}
 use Rattle.lock.specs.Effect.{QueueEffect, stands, registers, setsAside, restores, takesTail, takesAll, completes}
 use Rattle.queue.specs.Updates.{upd, upd-same, upd-other}
 use Rattle.queue.specs.Tickets.{Ghost, Span, Parts, oldest, nothing, whole, rest}
-use Rattle.safety.specs.Table.{waitOf}
-use Rattle.safety.specs.Lists.{isAside}
-use Rattle.safety.specs.Moves.{Moved, AsideAfter}
-use Rattle.safety.specs.Bridge.{nodeIn}
-use Rattle.safety.specs.Events.{Ok, Safe, event-safe}
+use Rattle.invariant.specs.Table.{waitOf}
+use Rattle.invariant.specs.Moves.{isAside}
+use Rattle.invariant.specs.Moves.{Moved, AsideAfter}
+use Rattle.invariant.specs.Bridge.{nodeIn}
+use Rattle.invariant.specs.Events.{Ok, Safe, event-safe}
 use Rattle.safety.specs.Intervals.{up, up-more, up-same, node-is}
 use Rattle.safety.specs.Held.{queue-is, held-is}
 use Rattle.safety.specs.Statements.{Event, after, effectIn, ListsAfter, Lists, Move}

@@ -1,7 +1,6 @@
 -- The lists of waiters, read off the machine alone, oldest first: the queue, which is the waiter listing turned round, and what each thread has taken
 -- off it. A list is lost where it leaves the range or does not end within the count. Assumes nothing.
 use Prim.Native.Nat.{ℕ, zero, suc}
-use mathlib.Core.Bool.{Bool, true, false}
 use mathlib.Core.List.{[], _∷_, reverse}
 use Rattle.word.specs.Base.{pick}
 use Rattle.word.specs.Flags.{toNode}
@@ -13,6 +12,7 @@ use Rattle.state.specs.declared.place.Walk.{Walk}
 use Rattle.state.specs.declared.place.Walk.the-variants.{Queue, ReadUnlock, Downgrade}
 use Rattle.state.specs.declared.place.Place.{Place}
 use Rattle.state.specs.declared.place.Place.the-variants.{Idle, TryReadLoad, TryReadCas, TryWriteOr, ContendLoad, ContendCas, RegisterCas, CompletedLoad, Park, WalkTail, WalkNext, WalkPrev, WalkHead, QueueCas, SplitPrev, SplitStore, SplitCas, SplitRestore, TakeCas, WakePrev, WakeStore, ReadUnlockLoad, ReadUnlockCas, Subtract, WriteUnlockCas, ReleaseCas, DowngradeCas, DowngradeSlowCas}
+use Rattle.invariant.specs.Moves.{isAside}
 use Rattle.listing.specs.Listing.{Listed, lost, listed, prepend, stand, nodeBy, toSet, listedOf}
 
 abbrev pub turned : Listed → Listed
@@ -64,37 +64,6 @@ heldIn m WriteUnlockCas = listed []
 heldIn m (ReleaseCas _) = listed []
 heldIn m DowngradeCas = listed []
 heldIn m (DowngradeSlowCas _) = listed []
-
--- from the store of prev in the head until the compare succeeds or the old tail is restored, what is held is set aside
-abbrev pub isAside : Place → Bool
-isAside Idle = false
-isAside (TryReadLoad _) = false
-isAside (TryReadCas _ _) = false
-isAside (TryWriteOr _) = false
-isAside (ContendLoad _ _) = false
-isAside (ContendCas _ _ _) = false
-isAside (RegisterCas _ _ _) = false
-isAside (CompletedLoad _) = false
-isAside (Park _) = false
-isAside (WalkTail _ _ _) = false
-isAside (WalkNext _ _ _) = false
-isAside (WalkPrev _ _ _ _) = false
-isAside (WalkHead _ _ _) = false
-isAside (QueueCas _ _) = false
-isAside (SplitPrev _ _ _) = false
-isAside (SplitStore _ _ _ _) = false
-isAside (SplitCas _ _ _) = true
-isAside (SplitRestore _ _ _ _) = true
-isAside (TakeCas _ _ _) = false
-isAside (WakePrev _ _) = false
-isAside (WakeStore _ _ _) = false
-isAside ReadUnlockLoad = false
-isAside (ReadUnlockCas _) = false
-isAside (Subtract _ _) = false
-isAside WriteUnlockCas = false
-isAside (ReleaseCas _) = false
-isAside DowngradeCas = false
-isAside (DowngradeSlowCas _) = false
 
 -- so it is on the thread's set-aside list, or on its waker's list
 abbrev pub asideIn : Machine → Place → Listed

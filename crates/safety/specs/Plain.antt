@@ -26,10 +26,10 @@ use Rattle.promises.specs.Theorems.{changes-little, refusal-changes-nothing, ho
 use Rattle.queue.specs.Updates.{upd, upd-same, upd-other, upd-self, eq?}
 use Rattle.queue.specs.Sums.{sum, sum-le, sum-two, sum-some}
 use Rattle.queue.specs.Tickets.{Ghost}
-use Rattle.safety.specs.Table.{about, Lock, Free, Allowed}
-use Rattle.safety.specs.Invariant.{readers, writers, leavers, Unqueued, empty, written, read, Locked, by-writer, by-readers, by-leaver, Inv}
-use Rattle.safety.specs.Bridge.{lockOf}
-use Rattle.safety.specs.Events.{Ok, event-safe}
+use Rattle.invariant.specs.Table.{about, Lock, Free, Allowed}
+use Rattle.invariant.specs.Invariant.{readers, writers, leavers, Unqueued, empty, written, read, Locked, by-writer, by-readers, by-leaver, Inv}
+use Rattle.invariant.specs.Bridge.{lockOf}
+use Rattle.invariant.specs.Events.{Ok, event-safe}
 use Rattle.safety.specs.Statements.{Event, after, effectIn, ran, holdersOf, Allows, Plainly, Whose, nobodys, readers as readersHold, writers as writersHold}
 
 -- ── what is held, by its numbers ──

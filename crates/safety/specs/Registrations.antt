@@ -13,10 +13,10 @@ use Rattle.lock.specs.Effect.{QueueEffect, stands, registers, setsAside, restor
 use Rattle.listing.specs.Listing.{listed, waitersBy}
 use Rattle.queue.specs.Updates.{upd, upd-same, upd-other}
 use Rattle.queue.specs.Tickets.{Ghost, live-queue}
-use Rattle.safety.specs.Table.{waitOf}
-use Rattle.safety.specs.Moves.{Moved}
-use Rattle.safety.specs.Bridge.{nodeIn}
-use Rattle.safety.specs.Events.{Ok, event-safe}
+use Rattle.invariant.specs.Table.{waitOf}
+use Rattle.invariant.specs.Moves.{Moved}
+use Rattle.invariant.specs.Bridge.{nodeIn}
+use Rattle.invariant.specs.Events.{Ok, event-safe}
 use Rattle.safety.specs.Intervals.{down, down-same, node-is}
 use Rattle.safety.specs.Held.{listing-is}
 use Rattle.safety.specs.Members.{no-repeats, take-down}

@@ -21,7 +21,7 @@ use Rattle.schedule.specs.declared.replay.Replayed.{Replayed as Replay}
 use Rattle.schedule.specs.declared.replay.Stop.{Stop}
 use Rattle.schedule.specs.declared.replay.Stop.the-variants.{Ran, Refused as Stopped}
 use Rattle.schedule.specs.declared.whole.FileStop.the-variants.{Refused as FileStopped}
-use Rattle.safety.specs.Events.{Ok, event-safe}
+use Rattle.invariant.specs.Events.{Ok, event-safe}
 use Rattle.safety.specs.Statements.{Event, ran, Replayed}
 use Rattle.safety.specs.Runs.{start}
 

@@ -1,19 +1,26 @@
 -- A fresh machine has the invariant, and so has every machine that a run leads to. Assumes nothing.
-use Prim.Native.Nat.{ℕ}
-use mathlib.Core.Bool.{true}
+use Prim.Native.Nat.{ℕ, _≤_}
+use mathlib.Core.Bool.{true, false}
 use mathlib.Core.List.{List, [], _∷_}
-use mathlib.Core.Path.{_≡_, refl, sym, subst}
+use mathlib.Core.Path.{_≡_, refl, sym, ap, _∙_, subst}
+use lib.Dec.{ltb, leb}
 use lib.ListN.{length-replicate}
-use Rattle.word.specs.Cases.{pick-both}
+use borrow.Author.Tests.{le-ltb, le-leb}
+use Rattle.word.specs.Cases.{pick-both, pick-no}
 use Rattle.state.specs.Machine.{threadLimit, goodCount, blankThread, madeOf, freshOf}
 use Rattle.state.specs.Node.{blankNode}
+use Rattle.state.specs.declared.answer.Reply.{Reply}
+use Rattle.state.specs.declared.answer.Reply.the-variants.{Accepted, Refused}
 use Rattle.state.specs.declared.machine.Fresh.{Fresh}
 use Rattle.state.specs.declared.machine.Machine.{Machine}
+use Rattle.lock.specs.Event.{eventOf}
+use Rattle.promises.specs.Theorems.{changes-little, refusal-changes-nothing}
+use Rattle.queue.specs.Tests.{never}
 use Rattle.queue.specs.Effects as Q
-use Rattle.safety.specs.Invariant.{Inv}
-use Rattle.safety.specs.Fresh.{freshLock, inv-fresh}
-use Rattle.safety.specs.Bridge.{lockOf, lock-fresh}
-use Rattle.safety.specs.Events.{Ok, event-safe}
+use Rattle.invariant.specs.Invariant.{Inv}
+use Rattle.invariant.specs.Fresh.{freshLock, inv-fresh}
+use Rattle.invariant.specs.Bridge.{lockOf, lock-fresh}
+use Rattle.invariant.specs.Events.{Ok, event-safe}
 use Rattle.safety.specs.Statements.{Event, after, ran, reached}
 
 -- a machine to start from: nobody waits and nothing is held
@@ -44,3 +51,23 @@ ran-ok m ok (e ∷ es) = ran-ok (after m e) (event-safe m ok (e .thread) (e .cod
 
 pub reached-ok : (n : ℕ) (es : List Event) → Ok (reached n es)
 reached-ok n es = ran-ok (freshOf n .machine) (start n .ok) es
+
+-- ── the number of threads ──
+
+pub same-count : (m : Machine) (e : Event) → after m e .count ≡ m .count
+same-count m e = by (eventOf m (e .code) (e .thread) .reply) refl
+  where
+    by : (r : Reply) → eventOf m (e .code) (e .thread) .reply ≡ r → after m e .count ≡ m .count
+    by (Accepted a w) f = changes-little m (e .code) (e .thread) a w f .count
+    by (Refused r) f = ap (λ x. x .count) (refusal-changes-nothing m (e .code) (e .thread) r f)
+
+ran-count : (m : Machine) (es : List Event) → ran m es .count ≡ m .count
+unfolding ran
+ran-count m [] = refl
+ran-count m (e ∷ es) = ran-count (after m e) es ∙ same-count m e
+
+pub reached-count : (n : ℕ) (es : List Event) → 1 ≤ n → n ≤ threadLimit → reached n es .count ≡ n
+reached-count n es a b = ran-count (freshOf n .machine) es ∙ pick-both (λ (f : Fresh). f .machine .count ≡ n) (goodCount n) _ _ (λ _. refl) (λ e. never e good)
+  where
+    good : goodCount n ≡ true
+    good = sym (pick-no (ltb n 1) true false (leb n threadLimit) (le-ltb n 1 a) (sym (le-leb n threadLimit b)))

@@ -14,12 +14,13 @@ use Rattle.state.specs.declared.machine.Machine.{Machine}
 use Rattle.listing.specs.Listing.{Listed, listed}
 use Rattle.queue.specs.Tests.{never}
 use Rattle.queue.specs.Tickets.{Ghost, Held, Somewhere}
-use Rattle.safety.specs.Table.{waitOf}
-use Rattle.safety.specs.Beside.{inside}
-use Rattle.safety.specs.Wake.{Waiter-of, waiter-of}
-use Rattle.safety.specs.Bridge.{nodeIn, lockOf}
-use Rattle.safety.specs.Events.{Ok}
-use Rattle.safety.specs.Lists.{heldIn, isAside}
+use Rattle.invariant.specs.Table.{waitOf}
+use Rattle.invariant.specs.Beside.{inside}
+use Rattle.invariant.specs.Wake.{Waiter-of, waiter-of}
+use Rattle.invariant.specs.Bridge.{nodeIn, lockOf}
+use Rattle.invariant.specs.Events.{Ok}
+use Rattle.invariant.specs.Moves.{isAside}
+use Rattle.safety.specs.Lists.{heldIn}
 use Rattle.safety.specs.Intervals.{node-is}
 use Rattle.safety.specs.Held.{listing-is, held-is}
 use Rattle.safety.specs.Members.{Among, in-down, in-up, down-in, up-in}

@@ -13,7 +13,7 @@ use Rattle.word.specs.Number.{none, thread, nodeOf}
 use Rattle.word.specs.declared.number.NodeNumber.{NodeNumber}
 use Rattle.word.specs.declared.number.ThreadNumber.{ThreadNumber}
 use Rattle.state.specs.Access.{accessOf, touchedOf}
-use Rattle.state.specs.Machine.{threadAt, nodeAt, freshOf}
+use Rattle.state.specs.Machine.{threadLimit, threadAt, nodeAt, freshOf}
 use Rattle.state.specs.declared.answer.Refusal.the-variants.{Damaged}
 use Rattle.state.specs.declared.answer.Reply.the-variants.{Refused}
 use Rattle.state.specs.declared.answer.Verdict.the-variants.{Fine}
@@ -29,7 +29,7 @@ use Rattle.schedule.specs.declared.whole.FileStop.the-variants.{Refused as File
 use Rattle.listing.specs.Listing.{Listed, lost, listed, nodeBy, listedOf, waitersOf}
 use Rattle.listing.specs.ReaderCount.{oldest, readersOf}
 use Rattle.queue.specs.Updates.{upd}
-use Rattle.safety.specs.Table.{about}
+use Rattle.invariant.specs.Table.{about}
 use Rattle.safety.specs.Lists.{queueIn, asideIn, wakesIn}
 
 -- ── runs ──
@@ -51,6 +51,10 @@ ran m (e ∷ es) = ran (after m e) es
 
 abbrev pub reached : ℕ → List Event → Machine
 reached n es = ran (freshOf n .machine) es
+
+-- from a count of 1 to the limit, the machine has so many threads
+abbrev pub CountStays : Type 0
+CountStays = (n : ℕ) (es : List Event) → 1 ≤ n → n ≤ threadLimit → reached n es .count ≡ n
 
 -- ── the plain lock: who holds what ──
 

@@ -11,8 +11,8 @@ use Rattle.queue.specs.Tests.{never, not-true}
 use Rattle.queue.specs.Sums.{sum-zero}
 use Rattle.queue.specs.Tickets.{Ghost, Somewhere}
 use Rattle.queue.specs.Roles.{none}
-use Rattle.safety.specs.Table.{waiting, about, Lock, aboutAt, waitOf, Free, weight, leaver}
-use Rattle.safety.specs.Invariant.{readers, writers, leavers, Locked, by-writer, by-readers, by-leaver, Responsible, contends, called, wakes, Inv}
+use Rattle.invariant.specs.Table.{waiting, about, Lock, aboutAt, waitOf, Free, weight, leaver}
+use Rattle.invariant.specs.Invariant.{readers, writers, leavers, Locked, by-writer, by-readers, by-leaver, Responsible, contends, called, wakes, Inv}
 
 -- idle, or asleep without a wake token; nothing is held
 pub record Rests (s : Lock) (t : ℕ) : Type 0 where

@@ -10,14 +10,14 @@ use Rattle.word.specs.declared.number.NodeNumber.{NodeNumber}
 use Rattle.state.specs.Machine.{threadAt, freshOf}
 use Rattle.state.specs.declared.machine.Machine.{Machine}
 use Rattle.queue.specs.Sums.{sum-zero}
-use Rattle.safety.specs.Invariant.{readers}
-use Rattle.safety.specs.Wake.{waiter-of}
-use Rattle.safety.specs.Steps.{Waiting, touches, marks}
-use Rattle.safety.specs.Bridge.{lockOf}
-use Rattle.safety.specs.Events.{Ok, event-safe}
+use Rattle.invariant.specs.Invariant.{readers}
+use Rattle.invariant.specs.Wake.{waiter-of}
+use Rattle.invariant.specs.Steps.{Waiting, touches, marks}
+use Rattle.invariant.specs.Bridge.{lockOf}
+use Rattle.invariant.specs.Events.{Ok, event-safe}
 use Rattle.safety.specs.Intervals.{down, node-is}
-use Rattle.safety.specs.Statements.{Waits, ReplayedSafe, OnePlace, ListsMove, ListingTotal, ReaderCount, registrations, reached, holdersOf, Plainly, PlainLock, MutualExclusion, NobodyStuck, NeverEight, TouchedAlive}
-use Rattle.safety.specs.Runs.{start, reached-ok}
+use Rattle.safety.specs.Statements.{CountStays, Waits, ReplayedSafe, OnePlace, ListsMove, ListingTotal, ReaderCount, registrations, reached, holdersOf, Plainly, PlainLock, MutualExclusion, NobodyStuck, NeverEight, TouchedAlive}
+use Rattle.safety.specs.Runs.{start, reached-ok, reached-count}
 use Rattle.safety.specs.Plain.{whose, run-allowed}
 use Rattle.safety.specs.Spots.{waiter-is, one-spot, spot-waits}
 use Rattle.safety.specs.ListMoves.{event-lists}
@@ -25,6 +25,9 @@ use Rattle.safety.specs.Registrations.{made-in, listing-made}
 use Rattle.safety.specs.Counts.{readersIn, tallied, counted}
 use Rattle.safety.specs.Replays.{replayed}
 use Rattle.safety.specs.Stuck.{Rests, nobody-asleep}
+
+pub count-stays : CountStays
+count-stays = reached-count
 
 pub never-eight : NeverEight
 never-eight n es e = event-safe (reached n es) (reached-ok n es) (e .thread) (e .code) .not-eight
