@@ -1,8 +1,11 @@
-// A replay's machine, answer and unread rest in one struct that holds the part of the caller's slice.
+// What a replay hands back together: machine, answer, and the unread rest as a part of the caller's own slice.
 //
-//     replay::replay_held(machine, s)     schedule's replay and rest, together
+//     replay::replay_held(machine, s)     schedule's `replay` and `rest`
+//     whole::replay_file_held(s)          schedule's `replay_file` and `rest_of_file`
 //
-// No function that has a local of such a struct is covered, so programs call schedule's functions.
+// A function with a local of such a struct is not covered: these two are walked by hand, and programs call schedule's four.
 pub mod replay;
+pub mod whole;
 
 pub use replay::Held;
+pub use whole::FileHeld;
