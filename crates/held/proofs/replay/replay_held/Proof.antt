@@ -17,7 +17,7 @@ use prog.Wp.{Heap, Calls, Loops, WpFn, Tables}
 use ghost.Atoms.{Atoms}
 use contract.Monad.{Fun}
 use contract.Running.{givenOf, tables, tablesOf}
-use types.Kit.{Given, ‵, raw, _⊛_, ⋆, _$_, _∵_, !, qed, by, move, drop, use1, use2, split, join, fsplit, fjoin, suffices, frame, rewrite, done}
+use types.Kit.{Given, Item, ‵, raw, _⊛_, ⋆, _$_, _∵_, !, qed, by, move, drop, use1, use2, split, join, fsplit, fjoin, suffices, frame, rewrite, done}
 use types.Part.{whole, sub, look-in, agg}
 use types.Run.{look, init, forget, stop, fld, from, load, of-opd, and-then, no-more, assigns, land, returns, enter, alloc1, alloc0, params1, pass1, pass0, free1, free0}
 use sound.WpLaws.{FmC, fmOf, WpFn-mono}
@@ -98,6 +98,12 @@ module _ {M : Type 1} (𝓤 : URA M) (H : Heap 𝓤) (A : Atoms 𝓤) (W : Given
   abbrev Post : Val → SProp 𝓤
   Post = walkOf 𝓤 H A f.ended stayed (f.clauses 𝓤 H A mem run) .post (((κ, tt), (q, tt), tt, (m, (s, tt)), passed), tt)
 
+  abbrev tok : Item 𝓤
+  tok = token 𝓤 H A κ q
+
+  abbrev lent-s : Item 𝓤
+  lent-s = lent 𝓤 H A κ s
+
   -- ── the result, of what the two calls answer ──
 
   abbrev made : Replayed → RefT (List ℕ) → Held
@@ -119,7 +125,7 @@ module _ {M : Type 1} (𝓤 : URA M) (H : Heap 𝓤) (A : Atoms 𝓤) (W : Given
 
   takes-replay : IsMachine → ent 𝓤 (Has 𝓤 H A κ q s) (Replay 𝓤 H A mem run .pre to-replay)
   takes-replay im =
-      qed W (token 𝓤 H A κ q ∷ lent 𝓤 H A κ s ∷ []) ∵ nothing ! $ move ! (2 ∷ 0 ∷ []) $ fjoin ! $ owned ! Machines.the-row (Is Machines.the-row) (LL.makes Machines.the-type Machines′.the-plain 𝓤 H A) m _ im $ fjoin ! $
+      qed W (tok ∷ lent-s ∷ []) ∵ nothing ! $ move ! (2 ∷ 0 ∷ []) $ fjoin ! $ owned ! Machines.the-row (Is Machines.the-row) (LL.makes Machines.the-type Machines′.the-plain 𝓤 H A) m _ im $ fjoin ! $
       move ! (1 ∷ 0 ∷ []) $ join ! $ frame ! $ done !
 
   abbrev replay-said : Replayed → SProp 𝓤
@@ -135,7 +141,7 @@ module _ {M : Type 1} (𝓤 : URA M) (H : Heap 𝓤) (A : Atoms 𝓤) (W : Given
 
   takes-rest : (n : ℕ) → n < 2 ^ 64 → ent 𝓤 (Has 𝓤 H A κ q s) (Rest 𝓤 H A mem run .pre (to-rest n))
   takes-rest n fits =
-      qed W (token 𝓤 H A κ q ∷ lent 𝓤 H A κ s ∷ []) ∵ nothing ! $ owned ! usize (Is usize) (uint-makes 𝓤 H A W w64) n _ (refl, fits) $ fjoin ! $ move ! (2 ∷ 0 ∷ []) $ fjoin ! $
+      qed W (tok ∷ lent-s ∷ []) ∵ nothing ! $ owned ! usize (Is usize) (uint-makes 𝓤 H A W w64) n _ (refl, fits) $ fjoin ! $ move ! (2 ∷ 0 ∷ []) $ fjoin ! $
       move ! (1 ∷ 0 ∷ []) $ join ! $ frame ! $ done !
 
   abbrev rest-said : ℕ → RefT (List ℕ) → SProp 𝓤
@@ -147,13 +153,13 @@ module _ {M : Type 1} (𝓤 : URA M) (H : Heap 𝓤) (A : Atoms 𝓤) (W : Given
   -- ── the entry and the exit ──
 
   enters : ent 𝓤 Entry (Has 𝓤 H A κ q s)
-  enters = qed W (token 𝓤 H A κ q ∷ ‵ (owns (Machines.the-row ∷ Bytes κ ∷ []) (m, (s, tt)) passed) ∷ []) ∵ move ! (1 ∷ []) $ fsplit ! $ drop ! $ fsplit ! $ move ! (1 ∷ []) $ drop ! $ move ! (1 ∷ []) $ done !
+  enters = qed W (tok ∷ ‵ (owns (Machines.the-row ∷ Bytes κ ∷ []) (m, (s, tt)) passed) ∷ []) ∵ move ! (1 ∷ []) $ fsplit ! $ drop ! $ fsplit ! $ move ! (1 ∷ []) $ drop ! $ move ! (1 ∷ []) $ done !
 
   exits : (r : Replayed) (t : RefT (List ℕ)) → IsMachine → IsReplayed r → r ≡ all → IsRest (r .run) t
-      → ent 𝓤 (⋆ 𝓤 H A (lent 𝓤 H A κ t ∷ token 𝓤 H A κ q ∷ lent 𝓤 H A κ s ∷ [])) (Post (madeVal r t))
+      → ent 𝓤 (⋆ 𝓤 H A (lent 𝓤 H A κ t ∷ tok ∷ lent-s ∷ [])) (Post (madeVal r t))
   exits r t im is e e′ =
       let o = LL.owed Replays.the-type Replays′.the-laws r _ is in
-      qed W (lent 𝓤 H A κ t ∷ token 𝓤 H A κ q ∷ lent 𝓤 H A κ s ∷ []) ∵
+      qed W (lent 𝓤 H A κ t ∷ tok ∷ lent-s ∷ []) ∵
       suffices ! _ (ends-at 𝓤 H A f.ended stayed (f.clauses 𝓤 H A mem run) W (((κ, tt), (q, tt), tt, (m, (s, tt)), passed), tt) (madeVal r t) (made r t) (tt, (tt, tt)) (tt, (tt, tt))) $
       says ! (ap (λ (y : Replayed). (y, now t)) e ∙ ap (λ (l : List ℕ). (all, l)) (e′ ∙ ap (λ (y : Replayed). dropped (eventWidth * y .run) (now s)) e)) $
       move ! (1 ∷ []) $ frame ! $ nothing ! $ move ! (2 ∷ 0 ∷ []) $ fjoin ! $ owned ! Machines.the-row (Is Machines.the-row) (LL.makes Machines.the-type Machines′.the-plain 𝓤 H A) m _ im $ fjoin ! $ frame ! $
@@ -172,29 +178,24 @@ module _ {M : Type 1} (𝓤 : URA M) (H : Heap 𝓤) (A : Atoms 𝓤) (W : Given
         qed W (raw Entry ∷ []) ∵ enter ! C Λ code.function (machineVal ∷ bytesVal s ∷ []) _ $
         alloc1 ! (λ l₀. alloc1 ! (λ l₁. alloc1 ! (λ l₂. alloc1 ! (λ l₃. alloc1 ! (λ l₄. alloc1 ! (λ l₅. alloc0 ! $ params1 ! $
         pass1 ! (init ! 8 refl (LL.lawful Machines.the-type Machines′.the-laws 𝓤 H A W .typed m _ im .0)) $ pass1 ! (init ! 6 refl (shr-slice-lawful 𝓤 H A W (named 0) κ u8 .typed s _ p .0)) $ pass0 ! $
-        move ! (12 ∷ []) $ use1 W (token 𝓤 H A κ q ⊛ lent 𝓤 H A κ s) enters $ split ! $
-        use2 W (raw (Replay 𝓤 H A mem run .pre to-replay) ⊛ lent 𝓤 H A κ s) (lends 𝓤 H A W κ q s (takes-replay im)) $ split ! $
-        calls-at ! fm (Replay 𝓤 H A mem run) replays to-replay (and-then ! (load ! (from ! (stop !)) (look ! 10 refl)) (and-then ! (load ! (from ! (stop !)) (look ! 8 refl)) (no-more !))) (λ u.
-        answers ! tt (token 𝓤 H A κ q) Replays.the-row replay-said (λ r. r ≡ all) (λ r. ensures-fact 𝓤 H A replay.ended (κ, tt) (m, (s, tt)) (r ≡ all)) u (λ r e. facts ! Replays.the-row (Is Replays.the-row) (shows 𝓤 H A Replays.the-row) r (u ∷ []) (λ is₀.
+        move ! (12 ∷ []) $ use1 W (tok ⊛ lent-s) enters $ split ! $
+        use2 W (raw (Replay 𝓤 H A mem run .pre to-replay) ⊛ lent-s) (lends 𝓤 H A W κ q s (takes-replay im)) $ split ! $
+        calls-at ! fm (Replay 𝓤 H A mem run) replays to-replay (and-then ! (load ! (from ! (stop !)) (look ! 10 refl)) (and-then ! (load ! (from ! (stop !)) (look ! 8 refl)) (no-more !))) (
+        answers ! tok Replays.the-row (LL.val Replays.the-type Replays′.the-laws) (LL.tells Replays.the-type Replays′.the-laws) replay-said (λ r. r ≡ all) (λ r. ensures-fact 𝓤 H A replay.ended (κ, tt) (m, (s, tt)) (r ≡ all)) (λ r e is. drop ! $
         -- [the token; the slice; room for _5 at 2; _4 at 4; _3 at 6; _2 at 8; _1 at 10; _0 at 12]
-        land ! (from ! (stop !)) (init ! 6 refl (LL.lawful Replays.the-type Replays′.the-laws 𝓤 H A W .typed r _ is₀ .0)) $
-        rewrite ! 6 (λ (w : Val). ‵ (fat fullShare Replays′.mir l₃ 0 w)) (ap only (LL.tells Replays.the-type Replays′.the-laws r (u ∷ []) is₀)) refl $
-        let is : IsReplayed r = subst (Is Replays.the-row r) (LL.tells Replays.the-type Replays′.the-laws r (u ∷ []) is₀) is₀ in
-        let typed = LL.lawful Replays.the-type Replays′.the-laws 𝓤 H A W .typed r _ is .0 .1 in
-        assigns ! (of-opd ! (load ! (from ! (fld ! {d = 592} refl (stop !))) (look-in ! 6 (sub ! 1 {d = 592} refl (whole !))))) (from ! (stop !)) (init ! 4 refl (tt, typed .1 .0)) $
-        use2 W (raw (Rest 𝓤 H A mem run .pre (to-rest (r .run))) ⊛ lent 𝓤 H A κ s) (lends 𝓤 H A W κ q s (takes-rest (r .run) (typed .1 .0 .fits))) $ split ! $
-        calls-at ! fm (Rest 𝓤 H A mem run) rests (to-rest (r .run)) (and-then ! (load ! (from ! (stop !)) (look ! 8 refl)) (and-then ! (load ! (from ! (stop !)) (look ! 4 refl)) (no-more !))) (λ u′.
-        answers ! tt (token 𝓤 H A κ q) (Bytes κ) (rest-said (r .run)) (IsRest (r .run)) (λ t. ensures-fact 𝓤 H A rest.ended (κ, tt) (s, (r .run, tt)) (IsRest (r .run) t)) u′ (λ t e′. peeks ! (Bytes κ) (Is (Bytes κ)) (shows 𝓤 H A (Bytes κ)) t (u′ ∷ []) (λ it₀.
+        let typed = LL.lawful Replays.the-type Replays′.the-laws 𝓤 H A W .typed r _ is .0 in
+        land ! (from ! (stop !)) (init ! 6 refl typed) $
+        assigns ! (of-opd ! (load ! (from ! (fld ! {d = 592} refl (stop !))) (look-in ! 6 (sub ! 1 {d = 592} refl (whole !))))) (from ! (stop !)) (init ! 4 refl (tt, typed .1 .1 .0)) $
+        use2 W (raw (Rest 𝓤 H A mem run .pre (to-rest (r .run))) ⊛ lent-s) (lends 𝓤 H A W κ q s (takes-rest (r .run) (typed .1 .1 .0 .fits))) $ split ! $
+        calls-at ! fm (Rest 𝓤 H A mem run) rests (to-rest (r .run)) (and-then ! (load ! (from ! (stop !)) (look ! 8 refl)) (and-then ! (load ! (from ! (stop !)) (look ! 4 refl)) (no-more !))) (
+        answers ! tok (Bytes κ) bytesVal (shr-slice-tells (named 0) κ u8) (rest-said (r .run)) (IsRest (r .run)) (λ t. ensures-fact 𝓤 H A rest.ended (κ, tt) (s, (r .run, tt)) (IsRest (r .run) t)) (λ t e′ it.
         -- [what the rest owns; the token; the slice; room for _5 at 3; _4 at 5; _3 at 7; _2 at 9; _1 at 11; _0 at 13]
-        land ! (from ! (stop !)) (init ! 3 refl (shr-slice-lawful 𝓤 H A W erased κ u8 .typed t _ it₀ .0)) $
-        rewrite ! 3 (λ (w : Val). ‵ (fat fullShare (sliceTy (tyRef erased imm (tyInt w8))) l₅ 0 w)) (ap only (shr-slice-tells (named 0) κ u8 t (u′ ∷ []) it₀)) refl $
-        rewrite ! 0 (λ (w : Val). ‵ (Bytes κ .own t (w ∷ []))) (ap only (shr-slice-tells (named 0) κ u8 t (u′ ∷ []) it₀)) refl $
-        let it : AreBytes κ t = subst (Is (Bytes κ) t) (shr-slice-tells (named 0) κ u8 t (u′ ∷ []) it₀) it₀ in
+        land ! (from ! (stop !)) (init ! 3 refl (shr-slice-lawful 𝓤 H A W erased κ u8 .typed t _ it .0)) $
         assigns ! (agg ! (and-then ! (load ! (from ! (fld ! {d = 0} refl (stop !))) (look-in ! 7 (sub ! 0 {d = 0} refl (whole !)))) (and-then ! (load ! (from ! (stop !)) (look ! 5 refl)) (and-then ! (load ! (from ! (fld ! {d = 600} refl (stop !))) (look-in ! 7 (sub ! 2 {d = 600} refl (whole !)))) (and-then ! (load ! (from ! (stop !)) (look ! 3 refl)) (no-more !))))))
         (from ! (stop !)) (init ! 13 refl (LL.lawful (Helds.the-type α) (Helds′.the-laws α) 𝓤 H A W .typed (made r t) _ (made-is r t is it) .0)) $
         returns ! (look ! 13 refl) $ forget ! 3 refl $ forget ! 5 refl $ forget ! 7 refl $ forget ! 9 refl $ forget ! 11 refl $ forget ! 13 refl $
         move ! (13 ∷ 14 ∷ []) $ free1 ! $ move ! (11 ∷ 12 ∷ []) $ free1 ! $ move ! (9 ∷ 10 ∷ []) $ free1 ! $ move ! (7 ∷ 8 ∷ []) $ free1 ! $ move ! (5 ∷ 6 ∷ []) $ free1 ! $ move ! (3 ∷ 4 ∷ []) $ free1 ! $ free0 ! $
-        by ! (exits r t im is e e′)))))))))))))
+        by ! (exits r t im is e e′)))))))))))
 
 -- ── the contract, at the function's own routine ──
 

@@ -17,7 +17,7 @@ use prog.Wp.{Heap, Calls, Loops, WpFn, Tables}
 use ghost.Atoms.{Atoms}
 use contract.Monad.{Fun}
 use contract.Running.{givenOf, tables, tablesOf}
-use types.Kit.{Given, ‵, raw, _⊛_, ⋆, _$_, _∵_, !, qed, by, move, drop, use1, use2, split, join, fsplit, fjoin, suffices, frame, rewrite, done}
+use types.Kit.{Given, Item, ‵, raw, _⊛_, ⋆, _$_, _∵_, !, qed, by, move, drop, use1, use2, split, join, fsplit, fjoin, suffices, frame, rewrite, done}
 use types.Part.{whole, sub, look-in, agg}
 use types.Run.{look, init, forget, stop, fld, from, load, of-opd, and-then, no-more, assigns, land, returns, enter, alloc1, alloc0, params1, pass1, pass0, free1, free0}
 use sound.WpLaws.{FmC, fmOf, WpFn-mono}
@@ -91,6 +91,12 @@ module _ {M : Type 1} (𝓤 : URA M) (H : Heap 𝓤) (A : Atoms 𝓤) (W : Given
   abbrev Post : Val → SProp 𝓤
   Post = walkOf 𝓤 H A f.ended stayed (f.clauses 𝓤 H A mem run) .post (((κ, tt), (q, tt), tt, (s, tt), passed), tt)
 
+  abbrev tok : Item 𝓤
+  tok = token 𝓤 H A κ q
+
+  abbrev lent-s : Item 𝓤
+  lent-s = lent 𝓤 H A κ s
+
   -- ── the result, of what the two calls answer ──
 
   abbrev made : FileReplayed → RefT (List ℕ) → FileHeld
@@ -111,7 +117,7 @@ module _ {M : Type 1} (𝓤 : URA M) (H : Heap 𝓤) (A : Atoms 𝓤) (W : Given
   to-replay = (((κ, tt), (q, tt), tt, (s, tt), passed), tt)
 
   takes-replay : ent 𝓤 (Has 𝓤 H A κ q s) (Replay 𝓤 H A mem run .pre to-replay)
-  takes-replay = qed W (token 𝓤 H A κ q ∷ lent 𝓤 H A κ s ∷ []) ∵ nothing ! $ move ! (2 ∷ 0 ∷ []) $ fjoin ! $ move ! (1 ∷ 0 ∷ []) $ join ! $ frame ! $ done !
+  takes-replay = qed W (tok ∷ lent-s ∷ []) ∵ nothing ! $ move ! (2 ∷ 0 ∷ []) $ fjoin ! $ move ! (1 ∷ 0 ∷ []) $ join ! $ frame ! $ done !
 
   abbrev replay-said : FileReplayed → SProp 𝓤
   replay-said = ensured 𝓤 H A replay.ended (replay.clauses 𝓤 H A mem run) (κ, tt) (s, tt) tt
@@ -132,7 +138,7 @@ module _ {M : Type 1} (𝓤 : URA M) (H : Heap 𝓤) (A : Atoms 𝓤) (W : Given
 
   takes-rest : (x : FileStop) (n : ℕ) → IsStop x → n < 2 ^ 64 → ent 𝓤 (Has 𝓤 H A κ q s) (Rest 𝓤 H A mem run .pre (to-rest x n))
   takes-rest x n ix fits =
-      qed W (token 𝓤 H A κ q ∷ lent 𝓤 H A κ s ∷ []) ∵ nothing ! $ owned ! usize (Is usize) (uint-makes 𝓤 H A W w64) n _ (refl, fits) $ fjoin ! $
+      qed W (tok ∷ lent-s ∷ []) ∵ nothing ! $ owned ! usize (Is usize) (uint-makes 𝓤 H A W w64) n _ (refl, fits) $ fjoin ! $
       owned ! Stops.the-row (Is Stops.the-row) (EL.makes Stops.the-type Stops′.the-plain 𝓤 H A) x _ ix $ fjoin ! $ move ! (2 ∷ 0 ∷ []) $ fjoin ! $
       move ! (1 ∷ 0 ∷ []) $ join ! $ frame ! $ done !
 
@@ -145,12 +151,12 @@ module _ {M : Type 1} (𝓤 : URA M) (H : Heap 𝓤) (A : Atoms 𝓤) (W : Given
   -- ── the entry and the exit ──
 
   enters : ent 𝓤 Entry (Has 𝓤 H A κ q s)
-  enters = qed W (token 𝓤 H A κ q ∷ ‵ (owns (Bytes κ ∷ []) (s, tt) passed) ∷ []) ∵ move ! (1 ∷ []) $ fsplit ! $ move ! (1 ∷ []) $ drop ! $ move ! (1 ∷ []) $ done !
+  enters = qed W (tok ∷ ‵ (owns (Bytes κ ∷ []) (s, tt) passed) ∷ []) ∵ move ! (1 ∷ []) $ fsplit ! $ move ! (1 ∷ []) $ drop ! $ move ! (1 ∷ []) $ done !
 
-  exits : (r : FileReplayed) (t : RefT (List ℕ)) → IsReplayed r → r ≡ all → IsRest (r .stop) (r .run) t → ent 𝓤 (⋆ 𝓤 H A (lent 𝓤 H A κ t ∷ token 𝓤 H A κ q ∷ lent 𝓤 H A κ s ∷ [])) (Post (madeVal r t))
+  exits : (r : FileReplayed) (t : RefT (List ℕ)) → IsReplayed r → r ≡ all → IsRest (r .stop) (r .run) t → ent 𝓤 (⋆ 𝓤 H A (lent 𝓤 H A κ t ∷ tok ∷ lent-s ∷ [])) (Post (madeVal r t))
   exits r t is e e′ =
       let o = LL.owed Replays.the-type Replays′.the-laws r _ is in
-      qed W (lent 𝓤 H A κ t ∷ token 𝓤 H A κ q ∷ lent 𝓤 H A κ s ∷ []) ∵
+      qed W (lent 𝓤 H A κ t ∷ tok ∷ lent-s ∷ []) ∵
       suffices ! _ (ends-at 𝓤 H A f.ended stayed (f.clauses 𝓤 H A mem run) W (((κ, tt), (q, tt), tt, (s, tt), passed), tt) (madeVal r t) (made r t) (tt, tt) (tt, tt)) $
       says ! (ap (λ (y : FileReplayed). (y, now t)) e ∙ ap (λ (l : List ℕ). (all, l)) (e′ ∙ ap (λ (y : FileReplayed). fileRestBy (y .stop) (y .run) (now s)) e)) $
       move ! (1 ∷ []) $ frame ! $ nothing ! $ move ! (2 ∷ 0 ∷ []) $ fjoin ! $ frame ! $
@@ -169,31 +175,26 @@ module _ {M : Type 1} (𝓤 : URA M) (H : Heap 𝓤) (A : Atoms 𝓤) (W : Given
         qed W (raw Entry ∷ []) ∵ enter ! C Λ code.function (bytesVal s ∷ []) _ $
         alloc1 ! (λ l₀. alloc1 ! (λ l₁. alloc1 ! (λ l₂. alloc1 ! (λ l₃. alloc1 ! (λ l₄. alloc1 ! (λ l₅. alloc0 ! $ params1 ! $
         pass1 ! (init ! 8 refl (shr-slice-lawful 𝓤 H A W (named 0) κ u8 .typed s _ p .0)) $ pass0 ! $
-        move ! (12 ∷ []) $ use1 W (token 𝓤 H A κ q ⊛ lent 𝓤 H A κ s) enters $ split ! $
-        use2 W (raw (Replay 𝓤 H A mem run .pre to-replay) ⊛ lent 𝓤 H A κ s) (lends 𝓤 H A W κ q s takes-replay) $ split ! $
-        calls-at ! fm (Replay 𝓤 H A mem run) replays to-replay (and-then ! (load ! (from ! (stop !)) (look ! 10 refl)) (no-more !)) (λ u.
-        answers ! tt (token 𝓤 H A κ q) Replays.the-row replay-said (λ r. r ≡ all) (λ r. ensures-fact 𝓤 H A replay.ended (κ, tt) (s, tt) (r ≡ all)) u (λ r e. facts ! Replays.the-row (Is Replays.the-row) (shows 𝓤 H A Replays.the-row) r (u ∷ []) (λ is₀.
+        move ! (12 ∷ []) $ use1 W (tok ⊛ lent-s) enters $ split ! $
+        use2 W (raw (Replay 𝓤 H A mem run .pre to-replay) ⊛ lent-s) (lends 𝓤 H A W κ q s takes-replay) $ split ! $
+        calls-at ! fm (Replay 𝓤 H A mem run) replays to-replay (and-then ! (load ! (from ! (stop !)) (look ! 10 refl)) (no-more !)) (
+        answers ! tok Replays.the-row (LL.val Replays.the-type Replays′.the-laws) (LL.tells Replays.the-type Replays′.the-laws) replay-said (λ r. r ≡ all) (λ r. ensures-fact 𝓤 H A replay.ended (κ, tt) (s, tt) (r ≡ all)) (λ r e is. drop ! $
         -- [the token; the slice; room for _5 at 2; _4 at 4; _3 at 6; _2 at 8; _1 at 10; _0 at 12]
-        land ! (from ! (stop !)) (init ! 8 refl (LL.lawful Replays.the-type Replays′.the-laws 𝓤 H A W .typed r _ is₀ .0)) $
-        rewrite ! 8 (λ (w : Val). ‵ (fat fullShare Replays′.mir l₂ 0 w)) (ap only (LL.tells Replays.the-type Replays′.the-laws r (u ∷ []) is₀)) refl $
-        let is : IsReplayed r = subst (Is Replays.the-row r) (LL.tells Replays.the-type Replays′.the-laws r (u ∷ []) is₀) is₀ in
+        let typed = LL.lawful Replays.the-type Replays′.the-laws 𝓤 H A W .typed r _ is .0 in
+        land ! (from ! (stop !)) (init ! 8 refl typed) $
         let ix : IsStop (r .stop) = LL.owed Replays.the-type Replays′.the-laws r _ is .1 .1 .0 in
-        let typed = LL.lawful Replays.the-type Replays′.the-laws 𝓤 H A W .typed r _ is .0 .1 in
-        assigns ! (of-opd ! (load ! (from ! (fld ! {d = 592} refl (stop !))) (look-in ! 8 (sub ! 1 {d = 592} refl (whole !))))) (from ! (stop !)) (init ! 6 refl (tt, typed .1 .0)) $
+        assigns ! (of-opd ! (load ! (from ! (fld ! {d = 592} refl (stop !))) (look-in ! 8 (sub ! 1 {d = 592} refl (whole !))))) (from ! (stop !)) (init ! 6 refl (tt, typed .1 .1 .0)) $
         assigns ! (of-opd ! (load ! (from ! (fld ! {d = 600} refl (stop !))) (look-in ! 8 (sub ! 2 {d = 600} refl (whole !))))) (from ! (stop !)) (init ! 4 refl (EL.lawful Stops.the-type Stops′.the-laws 𝓤 H A W tt .typed (r .stop) _ ix .0)) $
-        use2 W (raw (Rest 𝓤 H A mem run .pre (to-rest (r .stop) (r .run))) ⊛ lent 𝓤 H A κ s) (lends 𝓤 H A W κ q s (takes-rest (r .stop) (r .run) ix (typed .1 .0 .fits))) $ split ! $
-        calls-at ! fm (Rest 𝓤 H A mem run) rests (to-rest (r .stop) (r .run)) (and-then ! (load ! (from ! (stop !)) (look ! 10 refl)) (and-then ! (load ! (from ! (stop !)) (look ! 4 refl)) (and-then ! (load ! (from ! (stop !)) (look ! 6 refl)) (no-more !)))) (λ u′.
-        answers ! tt (token 𝓤 H A κ q) (Bytes κ) (rest-said (r .stop) (r .run)) (IsRest (r .stop) (r .run)) (λ t. ensures-fact 𝓤 H A rest.ended (κ, tt) (s, (r .stop, (r .run, tt))) (IsRest (r .stop) (r .run) t)) u′ (λ t e′. peeks ! (Bytes κ) (Is (Bytes κ)) (shows 𝓤 H A (Bytes κ)) t (u′ ∷ []) (λ it₀.
+        use2 W (raw (Rest 𝓤 H A mem run .pre (to-rest (r .stop) (r .run))) ⊛ lent-s) (lends 𝓤 H A W κ q s (takes-rest (r .stop) (r .run) ix (typed .1 .1 .0 .fits))) $ split ! $
+        calls-at ! fm (Rest 𝓤 H A mem run) rests (to-rest (r .stop) (r .run)) (and-then ! (load ! (from ! (stop !)) (look ! 10 refl)) (and-then ! (load ! (from ! (stop !)) (look ! 4 refl)) (and-then ! (load ! (from ! (stop !)) (look ! 6 refl)) (no-more !)))) (
+        answers ! tok (Bytes κ) bytesVal (shr-slice-tells (named 0) κ u8) (rest-said (r .stop) (r .run)) (IsRest (r .stop) (r .run)) (λ t. ensures-fact 𝓤 H A rest.ended (κ, tt) (s, (r .stop, (r .run, tt))) (IsRest (r .stop) (r .run) t)) (λ t e′ it.
         -- [what the rest owns; the token; the slice; room for _5 at 3; _4 at 5; _3 at 7; _2 at 9; _1 at 11; _0 at 13]
-        land ! (from ! (stop !)) (init ! 3 refl (shr-slice-lawful 𝓤 H A W erased κ u8 .typed t _ it₀ .0)) $
-        rewrite ! 3 (λ (w : Val). ‵ (fat fullShare (sliceTy (tyRef erased imm (tyInt w8))) l₅ 0 w)) (ap only (shr-slice-tells (named 0) κ u8 t (u′ ∷ []) it₀)) refl $
-        rewrite ! 0 (λ (w : Val). ‵ (Bytes κ .own t (w ∷ []))) (ap only (shr-slice-tells (named 0) κ u8 t (u′ ∷ []) it₀)) refl $
-        let it : AreBytes κ t = subst (Is (Bytes κ) t) (shr-slice-tells (named 0) κ u8 t (u′ ∷ []) it₀) it₀ in
+        land ! (from ! (stop !)) (init ! 3 refl (shr-slice-lawful 𝓤 H A W erased κ u8 .typed t _ it .0)) $
         assigns ! (agg ! (and-then ! (load ! (from ! (fld ! {d = 0} refl (stop !))) (look-in ! 9 (sub ! 0 {d = 0} refl (whole !)))) (and-then ! (load ! (from ! (stop !)) (look ! 7 refl)) (and-then ! (load ! (from ! (stop !)) (look ! 5 refl)) (and-then ! (load ! (from ! (stop !)) (look ! 3 refl)) (no-more !))))))
         (from ! (stop !)) (init ! 13 refl (LL.lawful (Helds.the-type α) (Helds′.the-laws α) 𝓤 H A W .typed (made r t) _ (made-is r t is it) .0)) $
         returns ! (look ! 13 refl) $ forget ! 3 refl $ forget ! 5 refl $ forget ! 7 refl $ forget ! 9 refl $ forget ! 11 refl $ forget ! 13 refl $
         move ! (13 ∷ 14 ∷ []) $ free1 ! $ move ! (11 ∷ 12 ∷ []) $ free1 ! $ move ! (9 ∷ 10 ∷ []) $ free1 ! $ move ! (7 ∷ 8 ∷ []) $ free1 ! $ move ! (5 ∷ 6 ∷ []) $ free1 ! $ move ! (3 ∷ 4 ∷ []) $ free1 ! $ free0 ! $
-        by ! (exits r t is e e′)))))))))))))
+        by ! (exits r t is e e′)))))))))))
 
 -- ── the contract, at the function's own routine ──
 
