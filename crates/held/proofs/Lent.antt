@@ -1,6 +1,6 @@
 -- A slice of bytes that is lent at one lifetime, and a call that takes it. The slice is Copy: a callee takes what it owns, and
 -- the caller keeps as much. What a callee answers is taken apart. Both walks of the crate stand on this. Assumes `Given`.
-use mathlib.Core.Path.{_≡_, sym, ap, subst}
+use mathlib.Core.Path.{sym, ap, subst}
 use Prim.Native.Nat.{ℕ}
 use mathlib.Core.List.{List, [], _∷_}
 use lib.ListN.{length}
