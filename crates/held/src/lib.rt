@@ -3,7 +3,7 @@
 //     replay::replay_held(machine, s)     schedule's `replay` and `rest`
 //     whole::replay_file_held(s)          schedule's `replay_file` and `rest_of_file`
 //
-// A function with a local of such a struct is not covered: these two are walked by hand, and programs call schedule's four.
+// Both are walked by hand. A function with a local of such a struct is not covered, so programs call schedule's four.
 pub mod replay;
 pub mod whole;
 

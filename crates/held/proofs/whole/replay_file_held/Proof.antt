@@ -55,6 +55,7 @@ use Rattle.schedule.proofs.whole.rest_of_file as rest
 use Rattle.schedule.proofs.whole.rest_of_file.Symbol as rest-def
 use Rattle.schedule.proofs.whole.rest_of_file.Symbol.{name as #rest-of-file}
 use Rattle.schedule.proofs.whole.rest_of_file.Met as rest-thm
+use Rattle.held.specs.Held.{fileShownOf, fileHeldOf}
 use Rattle.held.specs.declared.whole.FileHeld.{FileHeld}
 use Rattle.held.proofs.Lent.{Bytes, bytesVal, AreBytes, token, lent, Has, lends, ensures-fact, answers}
 use Rattle.held.proofs.Parts.{parts, runAt, stopAt, parts-own}
@@ -147,6 +148,10 @@ module _ {M : Type 1} (𝓤 : URA M) (H : Heap 𝓤) (A : Atoms 𝓤) (W : Given
   abbrev IsRest : FileStop → ℕ → RefT (List ℕ) → Type 0
   IsRest x n t = now t ≡ fileRestBy x n (now s)
 
+  -- what the contract says of the result
+  made-shows : (r : FileReplayed) (t : RefT (List ℕ)) → r ≡ all → IsRest (r .stop) (r .run) t → fileShownOf (made r t) ≡ fileHeldOf (now s)
+  made-shows r t e e′ = ap (λ (y : FileReplayed). (y, now t)) e ∙ ap (λ (l : List ℕ). (all, l)) (e′ ∙ ap (λ (y : FileReplayed). fileRestBy (y .stop) (y .run) (now s)) e)
+
   -- ── the entry and the exit ──
 
   enters : ent 𝓤 Entry (Has 𝓤 H A κ q s)
@@ -157,7 +162,7 @@ module _ {M : Type 1} (𝓤 : URA M) (H : Heap 𝓤) (A : Atoms 𝓤) (W : Given
       let o = LL.owed Replays.the-type Replays′.the-laws r _ is in
       qed W (lent 𝓤 H A κ t ∷ tok ∷ lent-s ∷ []) ∵
       suffices ! _ (ends-at 𝓤 H A f.ended stayed (f.clauses 𝓤 H A mem run) W (((κ, tt), (q, tt), tt, (s, tt), passed), tt) (madeVal r t) (made r t) (tt, tt) (tt, tt)) $
-      says ! (ap (λ (y : FileReplayed). (y, now t)) e ∙ ap (λ (l : List ℕ). (all, l)) (e′ ∙ ap (λ (y : FileReplayed). fileRestBy (y .stop) (y .run) (now s)) e)) $
+      says ! (made-shows r t e e′) $
       move ! (1 ∷ []) $ frame ! $ nothing ! $ move ! (2 ∷ 0 ∷ []) $ fjoin ! $ frame ! $
       use1 W (‵ (owns (Machines.the-row ∷ usize ∷ Stops.the-row ∷ Bytes κ ∷ []) (r .machine, (r .run, (r .stop, (t, tt)))) _)) (parts-own 𝓤 H A W Stops.the-row (EL.makes Stops.the-type Stops′.the-plain 𝓤 H A) (r .machine) (r .run) (r .stop) _ κ t (o .0) (o .1 .0 .1) (o .1 .1 .0)) $
       by ! (own-shut 𝓤 H A W (Helds.the-type α) (Helds′.the-laws α) (r .machine, (r .run, (r .stop, (t, tt)))))
