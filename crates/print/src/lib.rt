@@ -5,6 +5,8 @@
 //     replayed::step_line(..)    document 01's line for an event, `end N` or `refused N`
 pub mod line;
 pub mod page;
+mod place;
 pub mod replayed;
+pub mod traced;
 
 pub use line::Line;
