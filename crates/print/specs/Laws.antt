@@ -11,8 +11,10 @@ use lib.Seq.{take-suc, take-suc-set}
 use Rattle.word.specs.Cases.{pick-yes, pick-no}
 use Rattle.word.specs.Number.{none}
 use Rattle.word.specs.declared.number.NodeNumber.{NodeNumber}
+use Rattle.state.specs.declared.machine.Machine.{Machine}
 use Rattle.print.specs.Text.{decimalBy}
 use Rattle.print.specs.Traced.{nodeText, nodesText}
+use Rattle.print.specs.Thread.{rouserText, rousersText}
 use Rattle.print.specs.Line.{lineWidth, blankOf, putOf, putAll, shown}
 use Rattle.print.specs.declared.line.Line.{Line}
 
@@ -72,3 +74,15 @@ unfolding nodesText
 nodes-more k ns =
     let e : suc k ≡ k + 1 = omega arith in
     ap (λ (i : ℕ). nodesText i ns) e
+
+-- ── the threads that a waiter waits for ──
+
+pub rousers-none : (m : Machine) → [] ≡ rousersText 0 m
+unfolding rousersText
+rousers-none m = refl
+
+pub rousers-more : (k : ℕ) (m : Machine) → rousersText k m ++ rouserText m k ≡ rousersText (k + 1) m
+unfolding rousersText
+rousers-more k m =
+    let e : suc k ≡ k + 1 = omega arith in
+    ap (λ (i : ℕ). rousersText i m) e

@@ -5,4 +5,5 @@ pub mod Page
 pub mod PageLaws
 pub mod Place
 pub mod Traced
+pub mod Thread
 pub mod Laws

@@ -1,4 +1,4 @@
--- A place by the name it has in docs/PLACES.md. Assumes nothing.
+-- A place by the name it has in docs/PLACES.md; asleep means at park. Assumes nothing.
 use Prim.Native.Nat.{ℕ}
 use mathlib.Core.List.{List}
 use Rattle.state.specs.declared.place.Place.{Place}
@@ -14,7 +14,7 @@ placeText (ContendLoad _ _) = ascii "at ContendLoad"
 placeText (ContendCas _ _ _) = ascii "at ContendCas"
 placeText (RegisterCas _ _ _) = ascii "at RegisterCas"
 placeText (CompletedLoad _) = ascii "at CompletedLoad"
-placeText (Park _) = ascii "at Park"
+placeText (Park _) = ascii "asleep at Park"
 placeText (WalkTail _ _ _) = ascii "at WalkTail"
 placeText (WalkNext _ _ _) = ascii "at WalkNext"
 placeText (WalkPrev _ _ _ _) = ascii "at WalkPrev"

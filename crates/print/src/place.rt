@@ -1,4 +1,4 @@
-// A place by the name it has in docs/PLACES.md.
+// A place by the name it has in docs/PLACES.md; asleep means at park.
 ghost use mathlib.Core.Path.{_≡_};
 ghost use Rattle.print.specs.Line.{putAll};
 ghost use Rattle.print.specs.Place.{placeText};
@@ -31,7 +31,7 @@ pub(crate) fn put_place(line: Line, place: Place) -> Line
             seen: _,
         } => line.text(b"at RegisterCas"),
         Place::CompletedLoad { writer: _ } => line.text(b"at CompletedLoad"),
-        Place::Park { writer: _ } => line.text(b"at Park"),
+        Place::Park { writer: _ } => line.text(b"asleep at Park"),
         Place::WalkTail {
             walk: _,
             seen: _,

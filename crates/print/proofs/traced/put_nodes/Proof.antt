@@ -44,7 +44,7 @@ loop-again c =
     let next = nodeText (getD ns (l .i) none) in (
       omega arith,
       c .put-node .ensures
-      ∙ (ap (λ x. putAll x next) (l .inv .1) ∙ (put-both (a .line) (nodesText (l .i) ns) next ∙ ap (putAll (a .line)) (nodes-more (l .i) ns))),
+          ∙ (ap (λ x. putAll x next) (l .inv .1) ∙ (put-both (a .line) (nodesText (l .i) ns) next ∙ ap (putAll (a .line)) (nodes-more (l .i) ns))),
     )
 
 returns : tie.Need-returns Inv-loop μ-loop
