@@ -34,7 +34,7 @@ loop-again c =
     let next = rouserText (a .m) (l .k) in (
       omega arith,
       c .put-rouser .ensures
-      ∙ (ap (λ x. putAll x next) (l .inv .1) ∙ (put-both (a .line) (rousersText (l .k) (a .m)) next ∙ ap (putAll (a .line)) (rousers-more (l .k) (a .m)))),
+          ∙ (ap (λ x. putAll x next) (l .inv .1) ∙ (put-both (a .line) (rousersText (l .k) (a .m)) next ∙ ap (putAll (a .line)) (rousers-more (l .k) (a .m)))),
     )
 
 returns : tie.Need-returns Inv-loop μ-loop
