@@ -3,7 +3,4 @@ pub mod Line
 pub mod Replayed
 pub mod Page
 pub mod PageLaws
-pub mod Place
-pub mod Traced
-pub mod Thread
 pub mod Laws
