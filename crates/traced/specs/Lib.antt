@@ -1,0 +1,4 @@
+pub mod Place
+pub mod Event
+pub mod Thread
+pub mod Laws
