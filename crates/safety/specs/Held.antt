@@ -53,7 +53,7 @@ module _ (m : Machine) (ok : Ok m) where
   pub listing-is : listedOf m ≡ listed (down (g .log) (g .lo) (g .hi - g .lo))
   listing-is = sym (pick-yes (goodCount (m .count)) _ _ _ (ok .good) refl) ∙ by (queued (m .word)) refl
     where
-      by : (q : Bool) → queued (m .word) ≡ q → pick q (followedOf m) (listed []) ≡ listed (down (g .log) (g .lo) (g .hi - g .lo))
+      by : (q : Bool) → queued (m .word) ≡ q → pick q (followedOf m (toNode (m .word))) (listed []) ≡ listed (down (g .log) (g .lo) (g .hi - g .lo))
       by true e =
           let v : Newest g (m .word) = ok .inv .newest e in
           lists-all m (ticketsOf g) live range (ok .inv .queue .queue) (v .ticket) (v .last) (v .some) (toNode (m .word)) (sym (v .node))

@@ -13,7 +13,7 @@ use Rattle.state.specs.declared.place.Walk.the-variants.{Queue, ReadUnlock, Dow
 use Rattle.state.specs.declared.place.Place.{Place}
 use Rattle.state.specs.declared.place.Place.the-variants.{Idle, TryReadLoad, TryReadCas, TryWriteOr, ContendLoad, ContendCas, RegisterCas, CompletedLoad, Park, WalkTail, WalkNext, WalkPrev, WalkHead, QueueCas, SplitPrev, SplitStore, SplitCas, SplitRestore, TakeCas, WakePrev, WakeStore, ReadUnlockLoad, ReadUnlockCas, Subtract, WriteUnlockCas, ReleaseCas, DowngradeCas, DowngradeSlowCas}
 use Rattle.invariant.specs.Moves.{isAside}
-use Rattle.listing.specs.Listing.{Listed, lost, listed, prepend, stand, nodeBy, toSet, listedOf}
+use Rattle.listing.specs.Listing.{Listed, lost, listed, prepend, stand, nodeBy, followedOf, listedOf}
 
 abbrev pub turned : Listed → Listed
 turned lost = lost
@@ -32,7 +32,7 @@ backFrom (suc left) m at = pick (isNone at) (listed []) (stand m at (backFrom le
 abbrev pub walkedIn : Machine → Walk → Word → Listed
 walkedIn m (Queue _) seen = listed []
 walkedIn m ReadUnlock seen = listed []
-walkedIn m Downgrade seen = turned (toSet (m .count) m (toNode seen))
+walkedIn m Downgrade seen = turned (followedOf m (toNode seen))
 
 -- what a thread at place p has taken off: set aside, or to be woken
 abbrev pub heldIn : Machine → Place → Listed
