@@ -16,7 +16,7 @@ use Rattle.queue.specs.Sums.{sum-le, sum-two}
 use Rattle.queue.specs.Tickets.{Ghost, queueOf as ticketsOf, takenOf}
 use Rattle.queue.specs.Reads.{on-some}
 use Rattle.queue.specs.Roles.{onQueue, changing}
-use Rattle.queue.specs.Effects as Q
+use Rattle.queue.specs.Invariant as Q
 use Rattle.invariant.specs.Table.{handsOff, reads, writes, notRead, About, about, Lock, aboutAt, linksOf, roleOf, Reads, Allowed, weight, leaver}
 use Rattle.invariant.specs.Invariant.{readers, writers, leavers, Real, queueOf, Inv}
 use Rattle.invariant.specs.Told.{told}

@@ -33,7 +33,8 @@ use Rattle.queue.specs.Tests.{never}
 use Rattle.queue.specs.Updates.{upd, upd-same, upd-other, map-upd}
 use Rattle.queue.specs.Tickets.{Ghost, waiting}
 use Rattle.queue.specs.Roles.{none, ready}
-use Rattle.queue.specs.Effects as Q
+use Rattle.queue.specs.Invariant as Q
+use Rattle.queue.specs.Registering
 use Rattle.invariant.specs.Table.{off, free, about, Lock, aboutAt, linksOf, waitOf, roleOf, Free, leaver}
 use Rattle.invariant.specs.Invariant.{readers, writers, leavers, Unqueued, empty, written, read, Real, Newest, queueOf, Inv}
 use Rattle.invariant.specs.Frames.{moved, waits-as, view, stay}
@@ -111,7 +112,7 @@ module _ (n : ℕ) (s : Lock) (g : Ghost) (i : Inv n s g) (me : ThreadNumber) (t
       same = waits-as s (me .0) x nd′ (waitOf (s .th) (s .nd)) refl (sym unregistered) (λ u ne. ap (λ y. pick (aboutAt s u .registered) (not (y .completed)) false) (upd-other (s .nd) (suc (me .0)) (filledOf me writer (s .word)) (suc u) (λ z. ne (omega arith))))
 
       filled : Q.Inv g (Q.moved (queueOf s) (me .0) (Q.fillLinks (linksOf (s .nd)) (suc (me .0)) (not (queued (s .word))) (withoutFlags (s .word) .0)) (waitOf (s .th) (s .nd)) (ready (not (queued (s .word))) (withoutFlags (s .word) .0)))
-      filled = rw Q.moved-twice at (Q.fill g (Q.moved (queueOf s) (me .0) (linksOf (s .nd)) (waitOf (s .th) (s .nd)) none) (c .down .role) (me .0) (not (queued (s .word))) (withoutFlags (s .word) .0) (upd-same (roleOf (s .th)) (me .0) none) unregistered)
+      filled = rw Q.moved-twice at (Registering.fill g (Q.moved (queueOf s) (me .0) (linksOf (s .nd)) (waitOf (s .th) (s .nd)) none) (c .down .role) (me .0) (not (queued (s .word))) (withoutFlags (s .word) .0) (upd-same (roleOf (s .th)) (me .0) none) unregistered)
 
       -- the oldest waits, and the thread's own node does not
       off-own : Real n s → g .log (g .lo) ≢ suc (me .0)

@@ -25,7 +25,8 @@ use Rattle.queue.specs.Tests.{never, not-true, not-false}
 use Rattle.queue.specs.Sums.{sum-le, sum-two}
 use Rattle.queue.specs.Tickets.{Ghost, took}
 use Rattle.queue.specs.Roles.{onQueue}
-use Rattle.queue.specs.Effects as Q
+use Rattle.queue.specs.Invariant as Q
+use Rattle.queue.specs.Taking
 use Rattle.invariant.specs.Table.{off, writes, about, Lock, aboutAt, roleOf, Writes, leaver}
 use Rattle.invariant.specs.Invariant.{readers, writers, leavers, Hold, read, Newest, queueOf, Inv}
 use Rattle.invariant.specs.Told.{told}
@@ -135,7 +136,7 @@ module _ (n : ℕ) (s : Lock) (g : Ghost) (i : Inv n s g) (me : ThreadNumber) (t
   takes-all q l =
       let v : Newest g (s .word) = i .newest q in
       take n s g i (me .0) tin (word (SINGLE + LOCKED)) next (record { unqueued = refl; unowned = refl; plain = refl }) (record {
-        queue = Q.take-alone g (queueOf s) (i .queue) (me .0) (toNode (s .word) .0) (v .ticket) (ap (λ a. a .role) is) (alone l) (v .last) (v .some) (v .node);
+        queue = Taking.take-alone g (queueOf s) (i .queue) (me .0) (toNode (s .word) .0) (v .ticket) (ap (λ a. a .role) is) (alone l) (v .last) (v .some) (v .node);
         registered = rw is;
         owner = refl;
         owned = rw (l, is);

@@ -16,7 +16,7 @@ use Rattle.queue.specs.Sums.{sum, sum-upd}
 use Rattle.queue.specs.Tickets.{Ghost}
 use Rattle.queue.specs.Queue.{Links}
 use Rattle.queue.specs.Roles.{filled}
-use Rattle.queue.specs.Effects as Q
+use Rattle.queue.specs.Invariant as Q
 use Rattle.invariant.specs.Table.{handsOff, about, Lock, aboutAt, linksOf, waitOf, Allowed, weight, leaver}
 use Rattle.invariant.specs.Invariant.{readers, writers, leavers, Count, Real, Responsible, contends, called, wakes, Newest, queueOf, Inv}
 

@@ -8,7 +8,7 @@ use Rattle.state.specs.Machine.{blankThread}
 use Rattle.state.specs.Node.{blankNode}
 use Rattle.queue.specs.Tests.{never}
 use Rattle.queue.specs.Sums.{sum, sum-zero}
-use Rattle.queue.specs.Effects as Q
+use Rattle.queue.specs.Invariant as Q
 use Rattle.invariant.specs.Table.{Lock, linksOf, waitOf}
 use Rattle.invariant.specs.Invariant.{empty, queueOf, Inv}
 

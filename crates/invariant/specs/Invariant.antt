@@ -11,7 +11,7 @@ use Rattle.state.specs.declared.place.Place.the-variants.{Idle}
 use Rattle.queue.specs.Sums.{sum}
 use Rattle.queue.specs.Tickets.{Ghost}
 use Rattle.queue.specs.Roles.{filled}
-use Rattle.queue.specs.Effects as Q
+use Rattle.queue.specs.Invariant as Q
 use Rattle.invariant.specs.Table.{handsOff, Lock, aboutAt, linksOf, waitOf, roleOf, Free, Allowed, weight, leaver}
 
 -- ── holders ──

@@ -16,7 +16,7 @@ use Rattle.queue.specs.Tests.{never}
 use Rattle.queue.specs.Updates.{upd}
 use Rattle.queue.specs.Tickets.{Ghost}
 use Rattle.queue.specs.Roles.{none, filled}
-use Rattle.queue.specs.Effects as Q
+use Rattle.queue.specs.Invariant as Q
 use Rattle.invariant.specs.Table.{May, About, off, about, Lock, aboutAt, linksOf, waitOf, Allowed, leaver}
 use Rattle.invariant.specs.Invariant.{readers, writers, leavers, Count, Real, Newest, queueOf, Inv}
 use Rattle.invariant.specs.Frames.{moved, waits-as, view, summed, land, stay}

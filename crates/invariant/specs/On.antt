@@ -16,7 +16,7 @@ use Rattle.queue.specs.Updates.{upd, upd-cases, map-upd, map-keep}
 use Rattle.queue.specs.Tickets.{Ghost}
 use Rattle.queue.specs.Queue.{Links, setPv, setTl}
 use Rattle.queue.specs.Roles.{Role, filled}
-use Rattle.queue.specs.Effects as Q
+use Rattle.queue.specs.Invariant as Q
 use Rattle.invariant.specs.Table.{handsOff, About, walking, owning, waking, about, Lock, aboutAt, linksOf, waitOf, Allowed}
 use Rattle.invariant.specs.Invariant.{Real, queueOf, Inv}
 use Rattle.invariant.specs.Frames.{moved, waits-as, view, stay}

@@ -24,7 +24,8 @@ use Rattle.queue.specs.Tests.{never, not-false}
 use Rattle.queue.specs.Updates.{upd, upd-same}
 use Rattle.queue.specs.Tickets.{Ghost}
 use Rattle.queue.specs.Roles.{Role, none, walk, filled, public}
-use Rattle.queue.specs.Effects as Q
+use Rattle.queue.specs.Invariant as Q
+use Rattle.queue.specs.Walking
 use Rattle.invariant.specs.Table.{handsOff, lookKind, About, waiter, owning, about, Lock, aboutAt, linksOf, waitOf, roleOf, Free, Allowed, leaver}
 use Rattle.invariant.specs.Invariant.{readers, writers, leavers, Count, Real, wakes, Newest, queueOf, Inv}
 use Rattle.invariant.specs.Beside.{owned, real-hands-off}
@@ -65,7 +66,7 @@ module _ (n : ℕ) (s : Lock) (g : Ghost) (i : Inv n s g) (me : ThreadNumber) (t
         v = i .newest (owner-queued (rw is refl))
 
         begun : Q.Inv g (Q.moved (queueOf s) (me .0) (linksOf (s .nd)) (waitOf (s .th) (s .nd)) (walk (lookKind (handsOff (s .word))) (toNode (s .word) .0) (toNode (s .word) .0)))
-        begun = rw Q.moved-twice at (Q.begin g (Q.moved (queueOf s) (me .0) (linksOf (s .nd)) (waitOf (s .th) (s .nd)) none) down (me .0) (lookKind (handsOff (s .word))) (public-look (handsOff (s .word))) (toNode (s .word) .0) (v .ticket) (upd-same (roleOf (s .th)) (me .0) none) (v .last) (v .some) (v .node))
+        begun = rw Q.moved-twice at (Walking.begin g (Q.moved (queueOf s) (me .0) (linksOf (s .nd)) (waitOf (s .th) (s .nd)) none) down (me .0) (lookKind (handsOff (s .word))) (public-look (handsOff (s .word))) (toNode (s .word) .0) (v .ticket) (upd-same (roleOf (s .th)) (me .0) none) (v .last) (v .some) (v .node))
 
     -- ── QUEUE_LOCKED is cleared ──
 

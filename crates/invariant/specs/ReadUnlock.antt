@@ -26,7 +26,8 @@ use Rattle.queue.specs.Updates.{upd-same}
 use Rattle.queue.specs.Sums.{sum-le}
 use Rattle.queue.specs.Tickets.{Ghost}
 use Rattle.queue.specs.Roles.{none, walk, looks}
-use Rattle.queue.specs.Effects as Q
+use Rattle.queue.specs.Invariant as Q
+use Rattle.queue.specs.Walking
 use Rattle.invariant.specs.Table.{off, reads, about, Lock, aboutAt, linksOf, waitOf, roleOf, Reads, leaver}
 use Rattle.invariant.specs.Invariant.{readers, writers, leavers, Hold, Unqueued, empty, written, read, Newest, queueOf, Inv}
 use Rattle.invariant.specs.Frames.{moved, waits-as, view, stay}
@@ -91,7 +92,7 @@ module _ (n : ℕ) (s : Lock) (g : Ghost) (i : Inv n s g) (me : ThreadNumber) (t
       v = i .newest q
 
       begun : Q.Inv g (Q.moved (queueOf s) (me .0) (linksOf (s .nd)) (waitOf (s .th) (s .nd)) (walk looks (toNode (s .word) .0) (toNode (s .word) .0)))
-      begun = rw Q.moved-twice at (Q.begin g (Q.moved (queueOf s) (me .0) (linksOf (s .nd)) (waitOf (s .th) (s .nd)) none) (down .role) (me .0) looks refl (toNode (s .word) .0) (v .ticket) (upd-same (roleOf (s .th)) (me .0) none) (v .last) (v .some) (v .node))
+      begun = rw Q.moved-twice at (Walking.begin g (Q.moved (queueOf s) (me .0) (linksOf (s .nd)) (waitOf (s .th) (s .nd)) none) (down .role) (me .0) looks refl (toNode (s .word) .0) (v .ticket) (upd-same (roleOf (s .th)) (me .0) none) (v .last) (v .some) (v .node))
 
   judged : Kept n s g me k (readUnlockJudged (lookAt s me k mark fails) (s .word))
   judged = by (queued (s .word)) (downgraded (s .word)) (ltb (s .word .0) (SINGLE + LOCKED)) refl refl refl

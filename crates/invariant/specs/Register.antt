@@ -22,7 +22,9 @@ use Rattle.queue.specs.Tests.{never, not-false}
 use Rattle.queue.specs.Updates.{upd, upd-same, upd-other}
 use Rattle.queue.specs.Tickets.{Ghost, registered, takenOf}
 use Rattle.queue.specs.Roles.{none, ready, walk, filled, public, ReadyAt}
-use Rattle.queue.specs.Effects as Q
+use Rattle.queue.specs.Invariant as Q
+use Rattle.queue.specs.Walking
+use Rattle.queue.specs.Registering
 use Rattle.invariant.specs.Table.{handsOff, lookKind, About, filling, about, Lock, aboutAt, linksOf, waitOf, roleOf, Free, Allowed, weight, leaver}
 use Rattle.invariant.specs.Invariant.{readers, writers, leavers, Hold, Unqueued, empty, written, read, Locked, by-writer, by-readers, Count, Real, Newest, queueOf, Inv}
 use Rattle.invariant.specs.Beside.{unowned}
@@ -72,10 +74,10 @@ module _ (n : ℕ) (s : Lock) (g : Ghost) (i : Inv n s g) (me : ThreadNumber) (t
   joined = by (queued (s .word)) refl
     where
       by : (q : Bool) → queued (s .word) ≡ q → Q.Inv (registered g (suc (me .0))) (Q.moved (queueOf s) (me .0) (linksOf (s .nd)) (upd (waitOf (s .th) (s .nd)) (suc (me .0)) true) none)
-      by false e = Q.register-first g (queueOf s) (i .queue) (me .0) (withoutFlags (s .word) .0) (role-is false e) (i .nobody e)
+      by false e = Registering.register-first g (queueOf s) (i .queue) (me .0) (withoutFlags (s .word) .0) (role-is false e) (i .nobody e)
       by true e =
           let v : Newest g (s .word) = i .newest e in
-          Q.register-next g (queueOf s) (i .queue) (me .0) (withoutFlags (s .word) .0) (v .ticket) (role-is true e) (v .last) (v .some) (v .node ∙ omega arith)
+          Registering.register-next g (queueOf s) (i .queue) (me .0) (withoutFlags (s .word) .0) (v .ticket) (role-is true e) (v .last) (v .some) (v .node ∙ omega arith)
 
   -- the node's ticket is the newest
   newest : Newest (registered g (suc (me .0))) w
@@ -208,7 +210,7 @@ module _ (n : ℕ) (s : Lock) (g : Ghost) (i : Inv n s g) (me : ThreadNumber) (t
       public-look false = refl
 
       begun : Q.Inv (registered g (suc (me .0))) (Q.moved (queueOf s) (me .0) (linksOf (s .nd)) (upd (waitOf (s .th) (s .nd)) (suc (me .0)) true) (walk (lookKind (handsOff w)) (toNode w .0) (toNode w .0)))
-      begun = rw Q.moved-twice at (Q.begin (registered g (suc (me .0))) (Q.moved (queueOf s) (me .0) (linksOf (s .nd)) (upd (waitOf (s .th) (s .nd)) (suc (me .0)) true) none) joined (me .0) (lookKind (handsOff w)) (public-look (handsOff w)) (toNode w .0) (newest .ticket) (upd-same (roleOf (s .th)) (me .0) none) (newest .last) (newest .some) (newest .node))
+      begun = rw Q.moved-twice at (Walking.begin (registered g (suc (me .0))) (Q.moved (queueOf s) (me .0) (linksOf (s .nd)) (upd (waitOf (s .th) (s .nd)) (suc (me .0)) true) none) joined (me .0) (lookKind (handsOff w)) (public-look (handsOff w)) (toNode w .0) (newest .ticket) (upd-same (roleOf (s .th)) (me .0) none) (newest .last) (newest .some) (newest .node))
 
 module _ (n : ℕ) (s : Lock) (g : Ghost) (i : Inv n s g) (me : ThreadNumber) (tin : me .0 < n) (mark : Mark) (fails : Bool) (writer : Bool) (reloads : ℕ) where
   -- a registration that failed leaves the node filled, and nobody's
@@ -219,7 +221,7 @@ module _ (n : ℕ) (s : Lock) (g : Ghost) (i : Inv n s g) (me : ThreadNumber) (t
         down = record {
           owner = rw told;
           registered = rw told;
-          role = Q.unready g (queueOf s) (i .queue) (me .0) (not (queued seen)) (withoutFlags seen .0) (ap (λ a. a .role) told);
+          role = Registering.unready g (queueOf s) (i .queue) (me .0) (not (queued seen)) (withoutFlags seen .0) (ap (λ a. a .role) told);
         };
         free = rw told at (i .holding (me .0));
         leaves = rw told;

@@ -27,7 +27,8 @@ use Rattle.queue.specs.Updates.{upd-same}
 use Rattle.queue.specs.Sums.{sum-le}
 use Rattle.queue.specs.Tickets.{Ghost}
 use Rattle.queue.specs.Roles.{none, walk}
-use Rattle.queue.specs.Effects as Q
+use Rattle.queue.specs.Invariant as Q
+use Rattle.queue.specs.Walking
 use Rattle.invariant.specs.Table.{handsOff, lookKind, off, writes, notRead, about, Lock, aboutAt, linksOf, waitOf, roleOf, Writes, leaver}
 use Rattle.invariant.specs.Invariant.{readers, writers, leavers, Hold, empty, Real, Newest, queueOf, Inv}
 use Rattle.invariant.specs.Beside.{needs-some}
@@ -142,7 +143,7 @@ module _ (n : ℕ) (s : Lock) (g : Ghost) (i : Inv n s g) (me : ThreadNumber) (t
       newest = let v : Newest g (s .word) = i .newest has-queue in record { ticket = v .ticket; last = v .last; some = v .some; node = v .node ∙ ap (λ z. z .0) (sym (set-node QUEUE-LOCKED refl (clearLocked (s .word)) ∙ clear-node LOCKED refl (s .word))) }
 
       begun : Q.Inv g (Q.moved (queueOf s) (me .0) (linksOf (s .nd)) (waitOf (s .th) (s .nd)) (walk (lookKind (handsOff w)) (toNode w .0) (toNode w .0)))
-      begun = rw Q.moved-twice at (Q.begin g (Q.moved (queueOf s) (me .0) (linksOf (s .nd)) (waitOf (s .th) (s .nd)) none) (down .role) (me .0) (lookKind (handsOff w)) (public-look (handsOff w)) (toNode w .0) (newest .ticket) (upd-same (roleOf (s .th)) (me .0) none) (newest .last) (newest .some) (newest .node))
+      begun = rw Q.moved-twice at (Walking.begin g (Q.moved (queueOf s) (me .0) (linksOf (s .nd)) (waitOf (s .th) (s .nd)) none) (down .role) (me .0) (lookKind (handsOff w)) (public-look (handsOff w)) (toNode w .0) (newest .ticket) (upd-same (roleOf (s .th)) (me .0) none) (newest .last) (newest .some) (newest .node))
 
       unreal : Real n (moved s (me .0) w next (s .nd)) → ⊥
       unreal r = omega (arith, r .some, summed s (me .0) next (s .nd) n tin (λ y. readsOf (y .holding)), sole n s g i some, reads-not)

@@ -28,7 +28,9 @@ use Rattle.queue.specs.Updates.{upd, upd-same}
 use Rattle.queue.specs.Tickets.{Ghost, asided, restored, queueOf as ticketsOf, takenOf}
 use Rattle.queue.specs.Queue.{setTl}
 use Rattle.queue.specs.Roles.{Role, walk, head, split, aside, undo, filled, changes, SplitAt, AsideAt, UndoAt}
-use Rattle.queue.specs.Effects as Q
+use Rattle.queue.specs.Invariant as Q
+use Rattle.queue.specs.Walking
+use Rattle.queue.specs.Taking
 use Rattle.invariant.specs.Table.{handsOff, unheld, lookKind, mayWake, owning, about, Lock, aboutAt, linksOf, waitOf, roleOf, Free, Allowed}
 use Rattle.invariant.specs.Invariant.{Real, Newest, queueOf, Inv}
 use Rattle.invariant.specs.Beside.{owned, is-queued, lonely}
@@ -58,7 +60,7 @@ module _ (n : ℕ) (s : Lock) (g : Ghost) (i : Inv n s g) (me : ThreadNumber) (t
   pub kept-split-prev : s .th (me .0) .place ≡ SplitPrev who seen tail → Goes n s g me mark fails (tail .0) (λ v. splitPrevOf v who seen tail)
   kept-split-prev here = pick-both (Kept n s g me (tail .0)) (isNone (s .nd (tail .0) .prev)) _ _
       (λ e. kept-still n s g me (tail .0) _ _ g (stood me g _ (SplitPrev who seen tail) here refl _ refl) (on-to _ (head changes (toNode seen .0) (tail .0)) _ (not (handsOff seen)) is (TakeCas who seen tail) refl refl (rw (flags .0)) (Q.turn g (queueOf s) (i .queue) (me .0) (head changes (toNode seen .0) (tail .0)) (rw is at (i .queue .know (me .0))) (never refl))))
-      (λ e. kept-still n s g me (tail .0) _ _ g (stood me g _ (SplitPrev who seen tail) here refl _ refl) (on-to _ (split (toNode seen .0) (tail .0) (s .nd (tail .0) .prev .0)) _ (unheld seen) is (SplitStore who seen tail (s .nd (tail .0) .prev)) refl refl (rw is at (i .fits (me .0))) (Q.load-split g (queueOf s) (i .queue) (me .0) (toNode seen .0) (tail .0) (ap (λ a. a .role) is) (eqb-false (s .nd (tail .0) .prev .0) 0 e))))
+      (λ e. kept-still n s g me (tail .0) _ _ g (stood me g _ (SplitPrev who seen tail) here refl _ refl) (on-to _ (split (toNode seen .0) (tail .0) (s .nd (tail .0) .prev .0)) _ (unheld seen) is (SplitStore who seen tail (s .nd (tail .0) .prev)) refl refl (rw is at (i .fits (me .0))) (Taking.load-split g (queueOf s) (i .queue) (me .0) (toNode seen .0) (tail .0) (ap (λ a. a .role) is) (eqb-false (s .nd (tail .0) .prev .0) 0 e))))
     where
       is : aboutAt s (me .0) ≡ owning who seen (head changes (toNode seen .0) (tail .0)) (unheld seen)
       is = ap about here
@@ -87,7 +89,7 @@ module _ (n : ℕ) (s : Lock) (g : Ghost) (i : Inv n s g) (me : ThreadNumber) (t
   kept-split-store prev here = (
     asided g (me .0) (g .tk (toNode seen .0)),
     glide n s g (asided g (me .0) (g .tk (toNode seen .0))) (me .0) (placed (s .th (me .0)) (SplitCas who seen tail)) nd′ i (record {
-      queue = seen-as n s g i (me .0) tin (SplitCas who seen tail) alike nd′ _ link (asided g (me .0) (g .tk (toNode seen .0))) (s .word) (Q.set-aside g (queueOf s) (i .queue) (me .0) (toNode seen .0) (tail .0) (prev .0) (ap (λ a. a .role) is) (alone _ is));
+      queue = seen-as n s g i (me .0) tin (SplitCas who seen tail) alike nd′ _ link (asided g (me .0) (g .tk (toNode seen .0))) (s .word) (Taking.set-aside g (queueOf s) (i .queue) (me .0) (toNode seen .0) (tail .0) (prev .0) (ap (λ a. a .role) is) (alone _ is));
       newest = λ e. let y : Newest g (s .word) = i .newest e in record { ticket = y .ticket; last = y .last; some = omega (arith, two); node = y .node };
       nobody = λ e. absurd (omega (arith, i .nobody e, two));
       inside = tin;
@@ -147,13 +149,13 @@ module _ (n : ℕ) (s : Lock) (g : Ghost) (i : Inv n s g) (me : ThreadNumber) (t
       splits same = unown n s g i me tin mark fails who seen (aside (toNode seen .0) (tail .0)) (unheld seen) is (WakeStore who tail noNode)
           (record { owner = refl; reader = refl; registered = refl; asleep = refl; unfilled = refl; ok = refl; leaves = refl; needsQueue = refl; may = may-wake who (s .th (me .0) .holding) })
           (ap downgraded same ∙ unheld-flags (locked seen) (downgraded seen) fit .1)
-          (Q.commit g (queueOf s) (i .queue) (me .0) (toNode seen .0) (tail .0) (ap (λ a. a .role) is))
+          (Taking.commit g (queueOf s) (i .queue) (me .0) (toNode seen .0) (tail .0) (ap (λ a. a .role) is))
           (λ _. omega (arith, knows .one, knows .end))
 
       fails-to : Inv n (moved s (me .0) (s .word) (placed (s .th (me .0)) (SplitRestore who seen tail (s .word))) (s .nd)) g
       fails-to =
           let v : Newest g (s .word) = i .newest (is-queued n s g i (omega (arith, knows .base, knows .top))) in
-          on-to _ (undo (toNode seen .0) (tail .0) (toNode (s .word) .0)) _ (unheld seen) is (SplitRestore who seen tail (s .word)) refl refl fit (Q.fail g (queueOf s) (i .queue) (me .0) (toNode seen .0) (tail .0) (toNode (s .word) .0) (v .ticket) (ap (λ a. a .role) is) (v .last) (v .node))
+          on-to _ (undo (toNode seen .0) (tail .0) (toNode (s .word) .0)) _ (unheld seen) is (SplitRestore who seen tail (s .word)) refl refl fit (Taking.fail g (queueOf s) (i .queue) (me .0) (toNode seen .0) (tail .0) (toNode (s .word) .0) (v .ticket) (ap (λ a. a .role) is) (v .last) (v .node))
 
   -- ── the restore: the OLD head's tail, and the walk goes on from the reported word ──
 
@@ -193,9 +195,9 @@ module _ (n : ℕ) (s : Lock) (g : Ghost) (i : Inv n s g) (me : ThreadNumber) (t
       knows = rw is at (i .queue .know (me .0))
 
       back : Q.Inv (restored g (me .0) (g .taken (me .0) .beg)) (Q.moved (queueOf s) (me .0) (setTl (linksOf (s .nd)) (toNode seen .0) (tail .0)) (waitOf (s .th) (s .nd)) (walk changes (toNode reported .0) (toNode reported .0)))
-      back = Q.restore g (queueOf s) (i .queue) (me .0) (toNode seen .0) (tail .0) (toNode reported .0) (ap (λ a. a .role) is) (alone _ is)
+      back = Taking.restore g (queueOf s) (i .queue) (me .0) (toNode seen .0) (tail .0) (toNode reported .0) (ap (λ a. a .role) is) (alone _ is)
 
       -- it changes the queue again, or only looks, as the reported word says
       queue-on : (k : Bool) → Q.Inv (restored g (me .0) (g .taken (me .0) .beg)) (Q.moved (queueOf s) (me .0) (setTl (linksOf (s .nd)) (toNode seen .0) (tail .0)) (waitOf (s .th) (s .nd)) (walk (lookKind k) (toNode reported .0) (toNode reported .0)))
       queue-on false = back
-      queue-on true = rw Q.moved-twice at (Q.ease (restored g (me .0) (g .taken (me .0) .beg)) (Q.moved (queueOf s) (me .0) (setTl (linksOf (s .nd)) (toNode seen .0) (tail .0)) (waitOf (s .th) (s .nd)) (walk changes (toNode reported .0) (toNode reported .0))) back (me .0) (toNode reported .0) (toNode reported .0) (upd-same (roleOf (s .th)) (me .0) (walk changes (toNode reported .0) (toNode reported .0))))
+      queue-on true = rw Q.moved-twice at (Walking.ease (restored g (me .0) (g .taken (me .0) .beg)) (Q.moved (queueOf s) (me .0) (setTl (linksOf (s .nd)) (toNode seen .0) (tail .0)) (waitOf (s .th) (s .nd)) (walk changes (toNode reported .0) (toNode reported .0))) back (me .0) (toNode reported .0) (toNode reported .0) (upd-same (roleOf (s .th)) (me .0) (walk changes (toNode reported .0) (toNode reported .0))))

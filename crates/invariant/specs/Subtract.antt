@@ -27,7 +27,8 @@ use Rattle.queue.specs.Updates.{upd, upd-same, upd-cases, map-upd, map-keep}
 use Rattle.queue.specs.Tickets.{Ghost, queueOf as ticketsOf, takenOf}
 use Rattle.queue.specs.Queue.{setNx}
 use Rattle.queue.specs.Roles.{head, filled, looks, HeadAt}
-use Rattle.queue.specs.Effects as Q
+use Rattle.queue.specs.Invariant as Q
+use Rattle.queue.specs.Walking
 use Rattle.invariant.specs.Table.{walking, about, Lock, aboutAt, linksOf, waitOf, Reads, Allowed, leaver}
 use Rattle.invariant.specs.Invariant.{readers, writers, leavers, Locked, by-writer, by-readers, by-leaver, Real, queueOf, Inv}
 use Rattle.invariant.specs.Beside.{real, quiet-reader}
@@ -93,7 +94,7 @@ module _ (n : ℕ) (s : Lock) (g : Ghost) (i : Inv n s g) (me : ThreadNumber) (t
   -- the last one leaves LOCKED to be cleared
   subtract : (p : Place) → Off (about p) → Allowed (about p .may) (releasedRead (s .th (me .0) .holding)) → ((1 ≤ readers n s - 1) × (leaver (next p) ≡ 0)) ⊎ ((readers n s ≡ 1) × (leaver (next p) ≡ 1)) → Inv n (moved s (me .0) (s .word) (next p) nodes) g
   subtract p o a last = land n s g g (me .0) (s .word) (next p) nodes i (record {
-    queue = subst (λ z. Q.Inv g z) (sym (view s (me .0) (next p) nodes (s .word) (setNx (linksOf (s .nd)) (tail .0) (less .0)) (waitOf (s .th) (s .nd)) (links-next (s .nd) (tail .0) less) waits)) (rw (o .role) (Q.subtract g (queueOf s) (i .queue) (me .0) (toNode seen .0) (tail .0) (less .0) (ap (λ z. z .role) is) (quiet-reader n s g i (me .0) is-reader some)));
+    queue = subst (λ z. Q.Inv g z) (sym (view s (me .0) (next p) nodes (s .word) (setNx (linksOf (s .nd)) (tail .0) (less .0)) (waitOf (s .th) (s .nd)) (links-next (s .nd) (tail .0) less) waits)) (rw (o .role) (Walking.subtract g (queueOf s) (i .queue) (me .0) (toNode seen .0) (tail .0) (less .0) (ap (λ z. z .role) is) (quiet-reader n s g i (me .0) is-reader some)));
     newest = i .newest;
     nobody = i .nobody;
     handed = i .handed;

@@ -22,7 +22,9 @@ use Rattle.queue.specs.Tests.{never}
 use Rattle.queue.specs.Tickets.{Ghost, took, queueOf as ticketsOf, takenOf as taken}
 use Rattle.queue.specs.Queue.{Full}
 use Rattle.queue.specs.Roles.{head, filled, changes, HeadAt}
-use Rattle.queue.specs.Effects as Q
+use Rattle.queue.specs.Invariant as Q
+use Rattle.queue.specs.Walking
+use Rattle.queue.specs.Taking
 use Rattle.invariant.specs.Table.{handsOff, writes, owning, about, Lock, aboutAt, linksOf, waitOf, Allowed, weight, leaver}
 use Rattle.invariant.specs.Invariant.{readers, writers, leavers, Hold, Unqueued, empty, read, Newest, queueOf, Inv}
 use Rattle.invariant.specs.Beside.{inside, owned, unowned, is-queued, lonely, nobody-needs}
@@ -97,7 +99,7 @@ module _ (n : ℕ) (s : Lock) (g : Ghost) (i : Inv n s g) (me : ThreadNumber) (t
   -- thread t's holding and the leavers stay: what the word becomes is what holds already
   take-to : s .word ≡ seen → (w : Word) → Plain w → writers n s ≡ 0 → leavers n s ≡ 0 → ((w .0 ≡ 0) × (readers n s ≡ 0)) ⊎ ((w .0 ≡ SINGLE * readers n s + LOCKED) × (1 ≤ readers n s)) → Inv n (moved s (me .0) w (placed (s .th (me .0)) (WakePrev who tail)) (s .nd)) (took g (me .0))
   take-to same w p w0 l0 rs = take n s g i (me .0) tin w (placed (s .th (me .0)) (WakePrev who tail)) p (record {
-    queue = Q.take g (queueOf s) (i .queue) (me .0) (toNode seen .0) (tail .0) (v .ticket) (ap (λ a. a .role) is) (lonely n s g i (me .0) (rw is refl) (rw is hands-on)) (v .last) (v .node ∙ ap (λ y. toNode y .0) same);
+    queue = Taking.take g (queueOf s) (i .queue) (me .0) (toNode seen .0) (tail .0) (v .ticket) (ap (λ a. a .role) is) (lonely n s g i (me .0) (rw is refl) (rw is hands-on)) (v .last) (v .node ∙ ap (λ y. toNode y .0) same);
     registered = rw is;
     owner = refl;
     owned = rw (owned n s g i (me .0) (rw is refl), is);
@@ -140,4 +142,4 @@ module _ (n : ℕ) (s : Lock) (g : Ghost) (i : Inv n s g) (me : ThreadNumber) (t
   pub kept-take-cas : Goes n s g me mark fails (suc (me .0)) (λ v. takeCasOf v who seen tail)
   kept-take-cas = pick-both (Kept n s g me (suc (me .0))) (agreesOf (lookAt s me (suc (me .0)) mark fails) seen) _ _
       (λ e. let same : s .word ≡ seen = agreed (lookAt s me (suc (me .0)) mark fails) seen e in kept-still n s g me (suc (me .0)) _ _ _ (takes-all me g _ who seen tail here _ (record { none = knows .ground; is = refl })) (subst (λ y. Inv n (moved s (me .0) (takenOf y) (placed (s .th (me .0)) (WakePrev who tail)) (s .nd)) (took g (me .0))) same (takes same)))
-      (λ _. kept-still n s g me (suc (me .0)) _ _ g (take-fails me g _ who seen tail here _ _ _) (again n s g i me tin mark fails who seen _ _ is (Q.leave g (queueOf s) (i .queue) (me .0) changes refl (toNode seen .0) (tail .0) (ap (λ a. a .role) is))))
+      (λ _. kept-still n s g me (suc (me .0)) _ _ g (take-fails me g _ who seen tail here _ _ _) (again n s g i me tin mark fails who seen _ _ is (Walking.leave g (queueOf s) (i .queue) (me .0) changes refl (toNode seen .0) (tail .0) (ap (λ a. a .role) is))))

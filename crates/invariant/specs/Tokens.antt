@@ -6,7 +6,7 @@ use mathlib.Core.Path.{_≡_, refl, sym, subst}
 use Rattle.state.specs.declared.machine.Thread.{Thread}
 use Rattle.queue.specs.Tests.{never}
 use Rattle.queue.specs.Tickets.{Ghost}
-use Rattle.queue.specs.Effects as Q
+use Rattle.queue.specs.Invariant as Q
 use Rattle.invariant.specs.Table.{Lock, aboutAt, linksOf, waitOf, roleOf}
 use Rattle.invariant.specs.Invariant.{queueOf, Inv}
 use Rattle.invariant.specs.Frames.{moved, waits-as, view, stay}

@@ -14,7 +14,7 @@ use Rattle.queue.specs.Tests.{never}
 use Rattle.queue.specs.Updates.{upd}
 use Rattle.queue.specs.Tickets.{Ghost}
 use Rattle.queue.specs.Roles.{none}
-use Rattle.queue.specs.Effects as Q
+use Rattle.queue.specs.Invariant as Q
 use Rattle.invariant.specs.Table.{waiting, about, Lock, aboutAt, linksOf, waitOf, Free}
 use Rattle.invariant.specs.Invariant.{queueOf, Inv}
 use Rattle.invariant.specs.Frames.{moved, waits-as, view, stay}

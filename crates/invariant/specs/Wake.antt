@@ -31,7 +31,8 @@ use Rattle.queue.specs.Updates.{upd, upd-same, upd-other, upd-cases, map-keep, 
 use Rattle.queue.specs.Tickets.{Ghost, completed, rest, takenOf}
 use Rattle.queue.specs.Roles.{none, wake, store, filled, StoreAt}
 use Rattle.queue.specs.Reads.{All, Waits, named-wait}
-use Rattle.queue.specs.Effects as Q
+use Rattle.queue.specs.Invariant as Q
+use Rattle.queue.specs.Taking
 use Rattle.invariant.specs.Table.{About, waiter, waking, about, Lock, aboutAt, linksOf, waitOf, roleOf, Allowed}
 use Rattle.invariant.specs.Invariant.{Responsible, contends, called, wakes, Newest, queueOf, Inv}
 use Rattle.invariant.specs.Beside.{inside}
@@ -199,7 +200,7 @@ module _ (n : ℕ) (few : n ≤ threadLimit) (s : Lock) (g : Ghost) (i : Inv n s
   kept-wake-prev here =
       let at-wake : aboutAt s (me .0) ≡ waking who (wake (current .0)) = ap about here in
       kept-still n s g me (current .0) _ _ g (stood me g _ (WakePrev who current) here refl _ refl) (stroll n s g i (me .0) tin (WakeStore who current (s .nd (current .0) .prev)) (rw at-wake (alike-wake who _ _ refl)) (s .nd) (linksOf (s .nd)) (unlinked (s .nd)) (λ r. never refl)
-      (Q.load-wake g (queueOf s) (i .queue) (me .0) (current .0) (ap (λ a. a .role) at-wake)))
+      (Taking.load-wake g (queueOf s) (i .queue) (me .0) (current .0) (ap (λ a. a .role) at-wake)))
 
   module _ (prev : NodeNumber) (here : s .th (me .0) .place ≡ WakeStore who current prev) where
     whom : Waiter-of s (current .0)
@@ -242,7 +243,7 @@ module _ (n : ℕ) (few : n ≤ threadLimit) (s : Lock) (g : Ghost) (i : Inv n s
     pub kept-wake-store : Goes n s g me mark fails (current .0) (λ v. wakeStoreOf v who current prev)
     kept-wake-store = pick-both (Kept n s g me (current .0)) (isNone prev) _ _
         (λ e. (completed g (me .0), last who refl (eqb-true (prev .0) 0 e), went-last who))
-        (λ e. (completed g (me .0), wake-to (WakePrev who prev) (record { owner = refl; reader = refl; unfilled = refl; asleep = refl; leaves = refl; needsQueue = refl; ok = refl; may = may; registered = refl }) (Q.complete-more g (queueOf called-first) (with-token .queue) (me .0) (current .0) (prev .0) role-is (eqb-false (prev .0) 0 e)), completes-more me g _ who current prev here _ done-with))
+        (λ e. (completed g (me .0), wake-to (WakePrev who prev) (record { owner = refl; reader = refl; unfilled = refl; asleep = refl; leaves = refl; needsQueue = refl; ok = refl; may = may; registered = refl }) (Taking.complete-more g (queueOf called-first) (with-token .queue) (me .0) (current .0) (prev .0) role-is (eqb-false (prev .0) 0 e)), completes-more me g _ who current prev here _ done-with))
       where
         knows : StoreAt (takenOf g (me .0)) (linksOf (s .nd)) (current .0) (prev .0)
         knows = rw here at (i .queue .know (me .0))
@@ -255,7 +256,7 @@ module _ (n : ℕ) (few : n ≤ threadLimit) (s : Lock) (g : Ghost) (i : Inv n s
         went-last Leaver = completes-ends me g _ who current prev here _ done-with
 
         finished : prev .0 ≡ 0 → Q.Inv (completed g (me .0)) (Q.moved (queueOf called-first) (me .0) (linksOf (s .nd)) (upd (waitOf (called-first .th) (s .nd)) (current .0) false) none)
-        finished z = Q.complete-last g (queueOf called-first) (with-token .queue) (me .0) (current .0) (role-is ∙ ap (store (current .0)) z)
+        finished z = Taking.complete-last g (queueOf called-first) (with-token .queue) (me .0) (current .0) (role-is ∙ ap (store (current .0)) z)
 
         last : (o : Who) → o ≡ who → prev .0 ≡ 0 → Inv n (record { word = s .word; th = wokenIn (upd (s .th) (me .0) (placed (s .th (me .0)) (afterQueue o .place))) (ownerOf current); nd = upd (s .nd) (current .0) (withCompleted (s .nd (current .0))) }) (completed g (me .0))
         last (Waiter writer) o z = wake-to (CompletedLoad writer) (record { owner = refl; reader = refl; unfilled = refl; asleep = refl; leaves = refl; needsQueue = refl; ok = refl; may = rw (← o) at may; registered = ap waiter o }) (finished z)

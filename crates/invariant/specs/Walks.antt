@@ -27,7 +27,8 @@ use Rattle.queue.specs.Updates.{upd, upd-same}
 use Rattle.queue.specs.Tickets.{Ghost}
 use Rattle.queue.specs.Queue.{setTl}
 use Rattle.queue.specs.Roles.{Role, none, head, onQueue, filled, looks, changes, alone}
-use Rattle.queue.specs.Effects as Q
+use Rattle.queue.specs.Invariant as Q
+use Rattle.queue.specs.Walking
 use Rattle.invariant.specs.Table.{handsOff, unheld, lookKind, kindOf, walking, owning, about, Lock, aboutAt, linksOf, waitOf, roleOf}
 use Rattle.invariant.specs.Invariant.{Real, queueOf, Inv}
 use Rattle.invariant.specs.Told.{told}
@@ -49,13 +50,13 @@ module _ (n : ℕ) (s : Lock) (g : Ghost) (i : Inv n s g) (me : ThreadNumber) (t
   pub kept-walk-tail : (k : Walk) (seen : Word) (current : NodeNumber) → s .th (me .0) .place ≡ WalkTail k seen current → Goes n s g me mark fails (current .0) (λ v. walkTailOf v k seen current)
   kept-walk-tail k seen current here = pick-both (Kept n s g me (current .0)) (isNone (s .nd (current .0) .tail)) _ _
       (λ e. kept-still n s g me (current .0) _ _ g (stood me g _ (WalkTail k seen current) here refl _ refl) (stroll n s g i (me .0) tin (WalkNext k seen current) (alike k seen _ _ (ap about here) (WalkNext k seen current) refl refl) (s .nd) (linksOf (s .nd)) (unlinked (s .nd)) (calm k seen _ _ (ap about here) (WalkNext k seen current) refl refl)
-      (Q.load-none g (queueOf s) (i .queue) (me .0) (kindOf k seen) (toNode seen .0) (current .0) (ap (λ p. about p .role) here) (eqb-true (s .nd (current .0) .tail .0) 0 e))))
+      (Walking.load-none g (queueOf s) (i .queue) (me .0) (kindOf k seen) (toNode seen .0) (current .0) (ap (λ p. about p .role) here) (eqb-true (s .nd (current .0) .tail .0) 0 e))))
       (λ e. kept-still n s g me (current .0) _ _ g (stood me g _ (WalkTail k seen current) here refl _ refl) (stroll n s g i (me .0) tin (WalkHead k seen (s .nd (current .0) .tail)) (alike k seen _ _ (ap about here) (WalkHead k seen (s .nd (current .0) .tail)) refl refl) (s .nd) (linksOf (s .nd)) (unlinked (s .nd)) (calm k seen _ _ (ap about here) (WalkHead k seen (s .nd (current .0) .tail)) refl refl)
-      (Q.load-tail g (queueOf s) (i .queue) (me .0) (kindOf k seen) (toNode seen .0) (current .0) (ap (λ p. about p .role) here) (eqb-false (s .nd (current .0) .tail .0) 0 e))))
+      (Walking.load-tail g (queueOf s) (i .queue) (me .0) (kindOf k seen) (toNode seen .0) (current .0) (ap (λ p. about p .role) here) (eqb-false (s .nd (current .0) .tail .0) 0 e))))
 
   pub kept-walk-next : (k : Walk) (seen : Word) (current : NodeNumber) → s .th (me .0) .place ≡ WalkNext k seen current → Goes n s g me mark fails (current .0) (λ v. walkNextOf v k seen current)
   kept-walk-next k seen current here = kept-still n s g me (current .0) _ _ g (stood me g _ (WalkNext k seen current) here refl _ refl) (stroll n s g i (me .0) tin (WalkPrev k seen current (toNode (s .nd (current .0) .next))) (alike k seen _ _ (ap about here) (WalkPrev k seen current (toNode (s .nd (current .0) .next))) refl refl) (s .nd) (linksOf (s .nd)) (unlinked (s .nd)) (calm k seen _ _ (ap about here) (WalkPrev k seen current (toNode (s .nd (current .0) .next))) refl refl)
-      (Q.load-next g (queueOf s) (i .queue) (me .0) (kindOf k seen) (toNode seen .0) (current .0) (ap (λ p. about p .role) here)))
+      (Walking.load-next g (queueOf s) (i .queue) (me .0) (kindOf k seen) (toNode seen .0) (current .0) (ap (λ p. about p .role) here)))
 
   -- who walks on the queue is its owner or a contended reader: nobody else changes it
   quiet-walk : onQueue (roleOf (s .th) (me .0)) ≡ true → Q.Quiet (queueOf s) (me .0)
@@ -69,7 +70,7 @@ module _ (n : ℕ) (s : Lock) (g : Ghost) (i : Inv n s g) (me : ThreadNumber) (t
   kept-walk-prev k seen current next here = (
     g,
     stroll n s g i (me .0) tin (WalkTail k seen next) (alike k seen _ _ (ap about here) (WalkTail k seen next) refl refl) (upd (s .nd) (next .0) (withPrev (s .nd (next .0)) current)) _ (linked-prev (s .nd) (next .0) current) (calm k seen _ _ (ap about here) (WalkTail k seen next) refl refl)
-        (Q.store-prev g (queueOf s) (i .queue) (me .0) (kindOf k seen) (toNode seen .0) (current .0) (next .0) (ap (λ p. about p .role) here) (λ e. quiet-walk (ap (λ p. onQueue (about p .role)) here ∙ e))),
+        (Walking.store-prev g (queueOf s) (i .queue) (me .0) (kindOf k seen) (toNode seen .0) (current .0) (next .0) (ap (λ p. about p .role) here) (λ e. quiet-walk (ap (λ p. onQueue (about p .role)) here ∙ e))),
     stood me g _ (WalkPrev k seen current next) here refl _ refl,
   )
 
@@ -94,12 +95,12 @@ module _ (n : ℕ) (s : Lock) (g : Ghost) (i : Inv n s g) (me : ThreadNumber) (t
       -- hands off: it leaves the queue as it is
       leaves : handsOff seen ≡ true → Inv n (moved s (me .0) (s .word) (placed (s .th (me .0)) (QueueCas who seen)) nodes) g
       leaves e = owns (QueueCas who seen) none (handsOff seen) refl refl e
-          (rw Q.moved-twice at (Q.leave g (Q.moved (queueOf s) (me .0) (setTl (linksOf (s .nd)) (toNode seen .0) (tail .0)) (waitOf (s .th) (s .nd)) (head looks (toNode seen .0) (tail .0)))
-          (Q.store-tail g (queueOf s) (i .queue) (me .0) looks refl (toNode seen .0) (tail .0) (role-is true e)) (me .0) looks refl (toNode seen .0) (tail .0) (upd-same (roleOf (s .th)) (me .0) (head looks (toNode seen .0) (tail .0)))))
+          (rw Q.moved-twice at (Walking.leave g (Q.moved (queueOf s) (me .0) (setTl (linksOf (s .nd)) (toNode seen .0) (tail .0)) (waitOf (s .th) (s .nd)) (head looks (toNode seen .0) (tail .0)))
+          (Walking.store-tail g (queueOf s) (i .queue) (me .0) looks refl (toNode seen .0) (tail .0) (role-is true e)) (me .0) looks refl (toNode seen .0) (tail .0) (upd-same (roleOf (s .th)) (me .0) (head looks (toNode seen .0) (tail .0)))))
 
       -- else it takes something off
       changing : handsOff seen ≡ false → (p : Place) (ok : Bool) → about p ≡ owning who seen (head changes (toNode seen .0) (tail .0)) ok → ok ≡ true → Inv n (moved s (me .0) (s .word) (placed (s .th (me .0)) p) nodes) g
-      changing e p ok on f = owns p (head changes (toNode seen .0) (tail .0)) ok on refl f (Q.store-tail g (queueOf s) (i .queue) (me .0) changes refl (toNode seen .0) (tail .0) (role-is false e))
+      changing e p ok on f = owns p (head changes (toNode seen .0) (tail .0)) ok on refl f (Walking.store-tail g (queueOf s) (i .queue) (me .0) changes refl (toNode seen .0) (tail .0) (role-is false e))
 
       marked : handsOff seen ≡ false → (downgraded seen ≡ false → unheld seen ≡ true) → (m : Mark) → (m ≡ Missing → ⊥) → Kept n s g me (toNode seen .0) (markedBy (lookAt s me (toNode seen .0) mark fails) (withTail (s .nd (toNode seen .0)) tail) who seen tail m)
       marked e free Missing there = absurd (there refl)
@@ -119,7 +120,7 @@ module _ (n : ℕ) (s : Lock) (g : Ghost) (i : Inv n s g) (me : ThreadNumber) (t
     kept-walk-head-reader here = (
       g,
       stroll n s g i (me .0) tin (Subtract seen tail) (alike ReadUnlock seen _ _ (ap about here) (Subtract seen tail) refl refl) nodes _ (linked-tail (s .nd) (toNode seen .0) tail) (calm ReadUnlock seen _ _ (ap about here) (Subtract seen tail) refl refl)
-          (Q.store-tail g (queueOf s) (i .queue) (me .0) looks refl (toNode seen .0) (tail .0) (ap (λ p. about p .role) here)),
+          (Walking.store-tail g (queueOf s) (i .queue) (me .0) looks refl (toNode seen .0) (tail .0) (ap (λ p. about p .role) here)),
       stood me g _ (WalkHead ReadUnlock seen tail) here refl _ refl,
     )
 
@@ -129,7 +130,7 @@ module _ (n : ℕ) (s : Lock) (g : Ghost) (i : Inv n s g) (me : ThreadNumber) (t
         let is : aboutAt s (me .0) ≡ walking Downgrade seen (head alone (toNode seen .0) (tail .0)) = ap about here in (
           g,
           stroll n s g i (me .0) tin (WakePrev Leaver tail) (rw is turned) nodes _ (linked-tail (s .nd) (toNode seen .0) tail) (λ x. never refl)
-              (Q.store-alone g (queueOf s) (i .queue) (me .0) (toNode seen .0) (tail .0) (ap (λ a. a .role) is)),
+              (Walking.store-alone g (queueOf s) (i .queue) (me .0) (toNode seen .0) (tail .0) (ap (λ a. a .role) is)),
           stood me g _ (WalkHead Downgrade seen tail) here refl _ refl,
         )
       where

@@ -4,5 +4,8 @@ pub mod Sums
 pub mod Queue
 pub mod Tickets
 pub mod Roles
-pub mod Effects
+pub mod Invariant
+pub mod Walking
+pub mod Registering
+pub mod Taking
 pub mod Reads

@@ -1,5 +1,5 @@
 -- What the queue's invariant gives a reader: every node number that a role carries waits; who stands on the queue finds it not empty.
--- Not here: the steps (Effects). Assumes nothing.
+-- Not here: the steps (Walking, Registering, Taking). Assumes nothing.
 use mathlib.Core.Path.{_≡_}
 use mathlib.Core.Logic.{_⊎_, inl, inr}
 use mathlib.Core.Bool.{true, false≢true}
@@ -8,7 +8,7 @@ use native.Mathlib.Omega.{arith}
 use Rattle.queue.specs.Queue.{Links, Part, Walk, Full}
 use Rattle.queue.specs.Tickets.{Ghost, queueOf, takenOf}
 use Rattle.queue.specs.Roles.{Kind, looks, changes, alone, Role, none, ready, walk, past, link, head, split, aside, undo, wake, store, on, PastAt, HeadAt, AsideAt, Know, onQueue}
-use Rattle.queue.specs.Effects.{St, Inv}
+use Rattle.queue.specs.Invariant.{St, Inv}
 
 -- ── every node that a role names waits ──
 

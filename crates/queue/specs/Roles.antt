@@ -1,6 +1,6 @@
 -- What a thread knows of the queue, by its role; a role carries the node numbers that the thread's place carries, and nothing else.
 -- In this order: kinds of walk, roles, what each knows, what it tells the others; then the frame: what another thread's step must leave alone.
--- Not here: the steps themselves (Effects). Assumes nothing.
+-- Not here: the steps themselves (Walking, Registering, Taking). Assumes nothing.
 use mathlib.Core.Path.{_≡_, refl, ap, _∙_}
 use mathlib.Core.Logic.{_⊎_, inl, inr}
 use mathlib.Core.Bool.{Bool, true, false}

@@ -16,7 +16,7 @@ use Rattle.state.specs.declared.machine.Machine.{Machine}
 use Rattle.lock.specs.Event.{eventOf}
 use Rattle.promises.specs.Theorems.{changes-little, refusal-changes-nothing}
 use Rattle.queue.specs.Tests.{never}
-use Rattle.queue.specs.Effects as Q
+use Rattle.queue.specs.Invariant as Q
 use Rattle.invariant.specs.Invariant.{Inv}
 use Rattle.invariant.specs.Fresh.{freshLock, inv-fresh}
 use Rattle.invariant.specs.Bridge.{lockOf, lock-fresh}
