@@ -176,7 +176,7 @@ module _ (g : Ghost) (wait : ℕ → Bool) (v : Parts g wait) where
     not-zero : (u : ℕ) → suc u ≢ 0
     not-zero u e = omega arith
 
-    -- ── set aside: thread t gets the (oldest g); the floor becomes h ──
+    -- ── set aside: thread t gets the oldest; the floor becomes h ──
 
     pub parts-aside : (h : ℕ) → g .lo < g .hi → g .taken t .end ≤ g .taken t .beg → Parts (asided g t h) wait
     parts-aside h s none = record {
@@ -239,7 +239,7 @@ module _ (g : Ghost) (wait : ℕ → Bool) (v : Parts g wait) where
         somewhere i (inl x) = inl (omega arith, x .1)
         somewhere i (inr x) = among-old (g .taken) t (nothing b) i (λ y. inr y) (λ a k. inl (omega arith, omega (arith, v .held t i a k .0))) x
 
-    -- ── take: thread t gets the (whole g) queue ──
+    -- ── take: thread t gets the whole queue ──
 
     pub parts-take : g .taken t .end ≤ g .taken t .beg → Parts (took g t) wait
     parts-take none = record {
@@ -261,7 +261,7 @@ module _ (g : Ghost) (wait : ℕ → Bool) (v : Parts g wait) where
         somewhere i (inl x) = inr (among-new (g .taken) t (whole g) i (x .0) (x .1))
         somewhere i (inr x) = among-old (g .taken) t (whole g) i (λ y. inr y) (λ a b. absurd (omega arith)) x
 
-    -- ── complete: thread t's (oldest g) no longer waits ──
+    -- ── complete: thread t's oldest no longer waits ──
 
     pub parts-complete : g .taken t .beg < g .taken t .end → Parts (completed g t) (upd wait (g .log (g .taken t .beg)) false)
     parts-complete s = record {

@@ -20,6 +20,7 @@ use Rattle.state.specs.declared.answer.Verdict.the-variants.{Fine}
 use Rattle.state.specs.declared.holding.Holding.{Holding}
 use Rattle.state.specs.declared.holding.Holding.the-variants.{Nothing, Read, Write}
 use Rattle.state.specs.declared.machine.Machine.{Machine}
+use Rattle.state.specs.declared.place.Place.{Place}
 use Rattle.state.specs.declared.place.Place.the-variants.{Idle, Park}
 use Rattle.lock.specs.Effect.{LockEffect, keeps, grantsRead, grantsWrite, releasesRead, releasesWrite, downgrades, QueueEffect, stands, registers, setsAside, restores, takesTail, takesAll, completes, Effect, effectOf}
 use Rattle.lock.specs.Event.{eventOf}
@@ -223,24 +224,34 @@ OnePlace =
 
 -- ── nobody is left asleep ──
 
--- idle, or asleep without a wake token
-abbrev pub Resting : Machine → ℕ → Type 0
-Resting m t = (threadAt m t .place ≡ Idle) ⊎ ((writer : Bool) × (threadAt m t .place ≡ Park writer) × (threadAt m t .token ≡ false))
+-- holds nothing, and is idle or asleep without a wake token
+pub record Resting (m : Machine) (t : ℕ) : Type 0 where
+  pub holding : holdersOf m t ≡ Nothing
+  pub place : (threadAt m t .place ≡ Idle) ⊎ ((writer : Bool) × (threadAt m t .place ≡ Park writer) × (threadAt m t .token ≡ false))
 
--- if nobody holds the lock and every thread rests, nobody is asleep
+abbrev pub Asleep : Machine → ℕ → Type 0
+Asleep m t = (writer : Bool) × (threadAt m t .place ≡ Park writer)
+
+-- if nobody holds the lock and every thread is idle or asleep without a wake token, nobody is asleep
 abbrev pub NobodyStuck : Type 0
 NobodyStuck =
-    (n : ℕ) (es : List Event) → ((t : ℕ) → t < reached n es .count → (holdersOf (reached n es) t ≡ Nothing) × Resting (reached n es) t) → (t : ℕ) (writer : Bool) → t < reached n es .count → threadAt (reached n es) t .place ≢ Park writer
+    (n : ℕ) (es : List Event) → ((t : ℕ) → t < reached n es .count → Resting (reached n es) t) → (t : ℕ) → t < reached n es .count → Asleep (reached n es) t → ⊥
 
 -- ── refusal 8, and the nodes touched ──
 
 abbrev pub NeverEight : Type 0
 NeverEight = (n : ℕ) (es : List Event) (e : Event) → eventOf (reached n es) (e .code) (e .thread) .reply ≢ Refused Damaged
 
--- the node that a thread's next step accesses is its own or a waiter's; and a waiter's is the tail whose writer mark its local code reads, if any
+abbrev pub placeIn : Machine → ThreadNumber → Place
+placeIn m t = threadAt m (t .0) .place
+
+-- the node that thread t's next step accesses is its own or a waiter's; and a waiter's is the tail whose writer mark its local code reads, if any
+pub record Touched (m : Machine) (t : ThreadNumber) : Type 0 where
+  pub accessed : (touchedOf (accessOf t (placeIn m t)) t ≡ nodeOf t) ⊎ Waits m (touchedOf (accessOf t (placeIn m t)) t)
+  pub marked : (markedOf (placeIn m t) ≡ none) ⊎ Waits m (markedOf (placeIn m t))
+
 abbrev pub TouchedAlive : Type 0
-TouchedAlive =
-    (n : ℕ) (es : List Event) (t : ThreadNumber) → ((touchedOf (accessOf t (threadAt (reached n es) (t .0) .place)) t ≡ nodeOf t) ⊎ Waits (reached n es) (touchedOf (accessOf t (threadAt (reached n es) (t .0) .place)) t)) × ((markedOf (threadAt (reached n es) (t .0) .place) ≡ none) ⊎ Waits (reached n es) (markedOf (threadAt (reached n es) (t .0) .place)))
+TouchedAlive = (n : ℕ) (es : List Event) (t : ThreadNumber) → Touched (reached n es) t
 
 -- ── a replayed file ──
 

@@ -39,7 +39,11 @@ pub mutual-exclusion : MutualExclusion
 mutual-exclusion n es = whose (reached n es) (reached-ok n es)
 
 pub touched-alive : TouchedAlive
-touched-alive n es t = (accessed (touches (m .count) (lockOf m) (ok .ghost) (ok .inv) t (threadAt m (t .0) .place) refl), read (marks (m .count) (lockOf m) (ok .ghost) (ok .inv) (t .0) (threadAt m (t .0) .place) refl))
+touched-alive n es t =
+    record {
+      accessed = accessed (touches (m .count) (lockOf m) (ok .ghost) (ok .inv) t (threadAt m (t .0) .place) refl);
+      marked = read (marks (m .count) (lockOf m) (ok .ghost) (ok .inv) (t .0) (threadAt m (t .0) .place) refl);
+    }
   where
     m : Machine
     m = reached n es
@@ -59,10 +63,10 @@ touched-alive n es t = (accessed (touches (m .count) (lockOf m) (ok .ghost) (ok 
     read {k} (inr w) = inr (waits k w)
 
 pub nobody-stuck : NobodyStuck
-nobody-stuck n es all t writer l = nobody-asleep (reached n es .count) (lockOf (reached n es)) (reached-ok n es .ghost) (reached-ok n es .inv) (λ u. rests u (decLt u (reached n es .count))) t writer
+nobody-stuck n es all t l asleep = nobody-asleep (reached n es .count) (lockOf (reached n es)) (reached-ok n es .ghost) (reached-ok n es .inv) (λ u. rests u (decLt u (reached n es .count))) t (asleep .0) (asleep .1)
   where
     rests : (u : ℕ) → Dec (u < reached n es .count) → Rests (lockOf (reached n es)) u
-    rests u (yes k) = record { place = all u k .1; holding = rw (all u k .0) (record { reads = refl; writes = refl }) }
+    rests u (yes k) = record { place = all u k .place; holding = rw (all u k .holding) (record { reads = refl; writes = refl }) }
     rests u (no k) = record { place = inl (reached-ok n es .inv .outside u (omega arith)); holding = reached-ok n es .inv .unheld u (omega arith) }
 
 pub one-place : OnePlace
