@@ -59,7 +59,8 @@ first ReadUnlock h e = record { off = is-off _ _ _ _; allowed = read-held h e; n
 first WriteUnlock h e = record { off = is-off _ _ _ _; allowed = write-held h e; needs = refl; leaves = refl }
 first Downgrade h e = record { off = is-off _ _ _ _; allowed = write-held h e; needs = refl; leaves = refl }
 
-pub begins : (n : ℕ) (s : Lock) (g : Ghost) (i : Inv n s g) (t : ℕ) → t < n → s .th t .place ≡ Idle → (call : Call) → mayBegin call (s .th t .holding) ≡ true → Inv n (moved s t (s .word) (placed (s .th t) (firstPlace call)) (s .nd)) g
+pub begins : (n : ℕ) (s : Lock) (g : Ghost) (i : Inv n s g) (t : ℕ) → t < n → s .th t .place ≡ Idle → (call : Call)
+    → mayBegin call (s .th t .holding) ≡ true → Inv n (moved s t (s .word) (placed (s .th t) (firstPlace call)) (s .nd)) g
 begins n s g i t tin here call e =
     let f : First call (s .th t .holding) = first call (s .th t .holding) e in
     let is : aboutAt s t ≡ off any false false false = ap about here in

@@ -49,20 +49,24 @@ node-stored l j x h = fun-ext λ k. at k
         by (inr ne) = rw (upd-other (nodeIn l) (suc j) x (suc k) (λ z. ne (omega arith)), getD-set-other l j k x blankNode ne)
 
 -- a thread's record stored
-pub thread-stored : (m : Machine) (t : ℕ) (x : Thread) → t < length (m .threads) → lockOf (withThread m t x) ≡ record { word = m .word; th = upd (threadAt m) t x; nd = nodeIn (m .nodes) }
+pub thread-stored : (m : Machine) (t : ℕ) (x : Thread) → t < length (m .threads)
+    → lockOf (withThread m t x) ≡ record { word = m .word; th = upd (threadAt m) t x; nd = nodeIn (m .nodes) }
 thread-stored m t x l = λ i. record { word = m .word; th = at-set (m .threads) blankThread t x l i; nd = nodeIn (m .nodes) }
 
 -- a thread woken
-woken : (m : Machine) (w : Owner) → length (m .threads) ≡ threadLimit → lockOf (wokenOf m w) ≡ record { word = m .word; th = wokenIn (threadAt m) w; nd = nodeIn (m .nodes) }
+woken : (m : Machine) (w : Owner) → length (m .threads) ≡ threadLimit
+    → lockOf (wokenOf m w) ≡ record { word = m .word; th = wokenIn (threadAt m) w; nd = nodeIn (m .nodes) }
 woken m Nobody e = refl
 woken m (Somebody u) e = by (ltb (u .0) threadLimit) refl
   where
-    by : (b : Bool) → ltb (u .0) threadLimit ≡ b → lockOf (pick b (withThread m (u .0) (tokenedOf (threadAt m (u .0)))) m) ≡ record { word = m .word; th = pick b (upd (threadAt m) (u .0) (tokenedOf (threadAt m (u .0)))) (threadAt m); nd = nodeIn (m .nodes) }
+    by : (b : Bool) → ltb (u .0) threadLimit ≡ b
+        → lockOf (pick b (withThread m (u .0) (tokenedOf (threadAt m (u .0)))) m) ≡ record { word = m .word; th = pick b (upd (threadAt m) (u .0) (tokenedOf (threadAt m (u .0)))) (threadAt m); nd = nodeIn (m .nodes) }
     by true z = thread-stored m (u .0) (tokenedOf (threadAt m (u .0))) (omega (arith, ltb-true (u .0) threadLimit z))
     by false z = refl
 
 -- a step's change stored
-pub change-stored : (m : Machine) (t j : ℕ) (c : Change) → Sized m → t < threadLimit → j < threadLimit → lockOf (wokenOf (storedOf m t j c) (c .woken)) ≡ after (lockOf m) t (suc j) c
+pub change-stored : (m : Machine) (t j : ℕ) (c : Change) → Sized m → t < threadLimit → j < threadLimit
+    → lockOf (wokenOf (storedOf m t j c) (c .woken)) ≡ after (lockOf m) t (suc j) c
 change-stored m t j c z tl jl =
     woken (storedOf m t j c) (c .woken) (length-set (m .threads) t (c .thread) ∙ z .threads)
     ∙ λ i. record {

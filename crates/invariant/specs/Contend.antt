@@ -63,7 +63,8 @@ pub record Contends (s : Lock) (g : Ghost) (me : ThreadNumber) : Type 0 where
   pub unmoved : (p : Place) → standOf p ≡ elsewhere → isAside p ≡ false → Went me (s .th (me .0) .place) g p g
 
 -- the fill, to the links
-fill-links : (nd : ℕ → Node) (me : ThreadNumber) (writer : Bool) (w : Word) → linksOf (upd nd (suc (me .0)) (filledOf me writer w)) ≡ Q.fillLinks (linksOf nd) (suc (me .0)) (not (queued w)) (withoutFlags w .0)
+fill-links : (nd : ℕ → Node) (me : ThreadNumber) (writer : Bool) (w : Word)
+    → linksOf (upd nd (suc (me .0)) (filledOf me writer w)) ≡ Q.fillLinks (linksOf nd) (suc (me .0)) (not (queued w)) (withoutFlags w .0)
 fill-links nd me writer w = (λ j. record {
   nx = map-upd (λ y. y .next .0) nd (suc (me .0)) (filledOf me writer w) j;
   pv = map-upd (λ y. y .prev .0) nd (suc (me .0)) (filledOf me writer w) j;
@@ -78,7 +79,8 @@ module _ (n : ℕ) (s : Lock) (g : Ghost) (i : Inv n s g) (me : ThreadNumber) (t
   unregistered : waitOf (s .th) (s .nd) (suc (me .0)) ≡ false
   unregistered = rw (c .down .registered)
 
-  pub fill : (writer : Bool) (reloads : ℕ) → pick (queued (s .word)) true (locked (s .word)) ≡ true → Kept n s g me (suc (me .0)) (fillOf (lookAt s me (suc (me .0)) mark fails) writer reloads (s .word))
+  pub fill : (writer : Bool) (reloads : ℕ) → pick (queued (s .word)) true (locked (s .word)) ≡ true
+      → Kept n s g me (suc (me .0)) (fillOf (lookAt s me (suc (me .0)) mark fails) writer reloads (s .word))
   fill writer reloads fits = (
     g,
     stay n s g (me .0) x nd′ i (record {
@@ -119,13 +121,15 @@ module _ (n : ℕ) (s : Lock) (g : Ghost) (i : Inv n s g) (me : ThreadNumber) (t
       off-own r = let v : Newest g (s .word) = i .newest (r .queue) in waiting g (waitOf (s .th) (s .nd)) (i .queue .parts) (g .lo) 0 (suc (me .0)) (i .queue .parts .queued (g .lo) (omega arith) (omega arith)) unregistered
 
   -- the lock rule grants
-  pub grant : (writer : Bool) (to : Word) → permittedOf writer (s .word) ≡ To to → Inv n (moved s (me .0) to (record { place = Idle; token = s .th (me .0) .token; holding = grantedOf writer (s .th (me .0) .holding) }) (s .nd)) g
+  pub grant : (writer : Bool) (to : Word) → permittedOf writer (s .word) ≡ To to
+      → Inv n (moved s (me .0) to (record { place = Idle; token = s .th (me .0) .token; holding = grantedOf writer (s .th (me .0) .holding) }) (s .nd)) g
   grant true to e = by (writeLockOf (s .word)) refl e
     where
       unlocked : (x : Word) → writeLockOf (s .word) ≡ WriteTo x → (locked (s .word) ≡ false) × (setLocked (s .word) ≡ x)
       unlocked x f = let y = pick-second (locked (s .word)) WriteRefused (WriteTo (setLocked (s .word))) (WriteTo x) (λ z. let bad : _≡_ {A = ℕ} 0 1 = cc in omega arith) f in (y .0, cc (y .1))
 
-      by : (r : WriteLocked) → writeLockOf (s .word) ≡ r → byWrite r ≡ To to → Inv n (moved s (me .0) to (record { place = Idle; token = s .th (me .0) .token; holding = grantedWrite (s .th (me .0) .holding) }) (s .nd)) g
+      by : (r : WriteLocked) → writeLockOf (s .word) ≡ r → byWrite r ≡ To to
+          → Inv n (moved s (me .0) to (record { place = Idle; token = s .th (me .0) .token; holding = grantedWrite (s .th (me .0) .holding) }) (s .nd)) g
       by (WriteTo x) f z =
           let is : setLocked (s .word) ≡ to = unlocked x f .1 ∙ cc z in
           subst (λ w. Inv n (moved s (me .0) w (record { place = Idle; token = s .th (me .0) .token; holding = grantedWrite (s .th (me .0) .holding) }) (s .nd)) g) is
@@ -133,23 +137,27 @@ module _ (n : ℕ) (s : Lock) (g : Ghost) (i : Inv n s g) (me : ThreadNumber) (t
       by WriteRefused f z = absurd (let bad : _≡_ {A = ℕ} 0 1 = cc in omega arith)
   grant false to e = by (readLockOf (s .word)) refl e
     where
-      by : (r : ReadLocked) → readLockOf (s .word) ≡ r → byRead r ≡ To to → Inv n (moved s (me .0) to (record { place = Idle; token = s .th (me .0) .token; holding = grantedRead (s .th (me .0) .holding) }) (s .nd)) g
+      by : (r : ReadLocked) → readLockOf (s .word) ≡ r → byRead r ≡ To to
+          → Inv n (moved s (me .0) to (record { place = Idle; token = s .th (me .0) .token; holding = grantedRead (s .th (me .0) .holding) }) (s .nd)) g
       by (ReadTo x) f z =
           let is : x ≡ to = cc z in
           finish n s g i (me .0) tin (c .down) to _ (ended-read n s g i (me .0) tin (c .down) (c .free) (c .leaves) to (f ∙ ap ReadTo is))
       by ReadRefused f z = absurd (let bad : _≡_ {A = ℕ} 0 1 = cc in omega arith)
 
   module _ (writer : Bool) (reloads : ℕ) where
-    on-to : (q : Place) → about q ≡ off free false false true → standOf q ≡ elsewhere → isAside q ≡ false → Kept n s g me (suc (me .0)) (stays (lookAt s me (suc (me .0)) mark fails) (at q))
+    on-to : (q : Place) → about q ≡ off free false false true → standOf q ≡ elsewhere → isAside q ≡ false
+        → Kept n s g me (suc (me .0)) (stays (lookAt s me (suc (me .0)) mark fails) (at q))
     on-to q told away near = kept-still n s g me (suc (me .0)) _ _ g (c .unmoved q away near) (hop n s g i (me .0) tin (c .down) q (rw told (is-off _ _ _ _)) (rw told (c .free)) (rw told (never refl)) (rw told (sym (c .leaves))) (λ _. rw told))
 
     pub contend : Kept n s g me (suc (me .0)) (contendJudged (lookAt s me (suc (me .0)) mark fails) writer reloads (s .word))
     contend = by (permittedOf writer (s .word)) refl
       where
-        fill-bare : permittedOf writer (s .word) ≡ Refused → queued (s .word) ≡ false → Kept n s g me (suc (me .0)) (fillOf (lookAt s me (suc (me .0)) mark fails) writer reloads (s .word))
+        fill-bare : permittedOf writer (s .word) ≡ Refused → queued (s .word) ≡ false
+            → Kept n s g me (suc (me .0)) (fillOf (lookAt s me (suc (me .0)) mark fails) writer reloads (s .word))
         fill-bare e q = fill writer reloads (rw q (refused-locked writer (s .word) (readers n s) (writers n s) (leavers n s) (i .count .bare q) e))
 
-        by : (r : Permitted) → permittedOf writer (s .word) ≡ r → Kept n s g me (suc (me .0)) (contendBy (lookAt s me (suc (me .0)) mark fails) writer reloads (s .word) r)
+        by : (r : Permitted) → permittedOf writer (s .word) ≡ r
+            → Kept n s g me (suc (me .0)) (contendBy (lookAt s me (suc (me .0)) mark fails) writer reloads (s .word) r)
         by (To to) e = on-to (ContendCas writer reloads (s .word)) refl (contend-elsewhere writer reloads (s .word) .1) refl
         by Refused e = pick-both (Kept n s g me (suc (me .0))) (queued (s .word)) _ _
             (λ q. fill writer reloads (rw q))
@@ -161,10 +169,12 @@ module _ (n : ℕ) (s : Lock) (g : Ghost) (i : Inv n s g) (me : ThreadNumber) (t
       let e : aboutAt s (me .0) ≡ off free false false true = ap about here ∙ told in
       record { down = off-down n s g i (me .0) (rw e (is-off _ _ _ _)); free = rw e at (i .holding (me .0)); leaves = rw e; unmoved = λ q _ near. stood me g _ p here unmoved q near }
 
-  pub kept-contend-load : (writer : Bool) (reloads : ℕ) → s .th (me .0) .place ≡ ContendLoad writer reloads → Goes n s g me mark fails (suc (me .0)) (λ v. contendLoadOf v writer reloads)
+  pub kept-contend-load : (writer : Bool) (reloads : ℕ) → s .th (me .0) .place ≡ ContendLoad writer reloads
+      → Goes n s g me mark fails (suc (me .0)) (λ v. contendLoadOf v writer reloads)
   kept-contend-load writer reloads here = contend n s g i me tin mark fails (contends-off (ContendLoad writer reloads) here refl refl) writer reloads
 
-  pub kept-contend-cas : (writer : Bool) (reloads : ℕ) (seen : Word) → s .th (me .0) .place ≡ ContendCas writer reloads seen → Goes n s g me mark fails (suc (me .0)) (λ v. contendCasOf v writer reloads seen)
+  pub kept-contend-cas : (writer : Bool) (reloads : ℕ) (seen : Word) → s .th (me .0) .place ≡ ContendCas writer reloads seen
+      → Goes n s g me mark fails (suc (me .0)) (λ v. contendCasOf v writer reloads seen)
   kept-contend-cas writer reloads seen here = pick-both (Kept n s g me (suc (me .0))) (agreesOf (lookAt s me (suc (me .0)) mark fails) seen) _ _ (λ e. by (permittedOf writer seen) (ap (permittedOf writer) (agreed (lookAt s me (suc (me .0)) mark fails) seen e))) (λ _. again)
     where
       c : Contends s g me

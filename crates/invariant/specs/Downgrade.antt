@@ -150,16 +150,19 @@ module _ (n : ℕ) (s : Lock) (g : Ghost) (i : Inv n s g) (me : ThreadNumber) (t
       })
 
   -- the compare that set DOWNGRADED, or took the queue
-  succeeds : (seen : Word) → s .th (me .0) .place ≡ DowngradeSlowCas seen → queued (s .word) ≡ true → (mark : Mark) (fails : Bool) (k : ℕ) → Kept n s g me k (writesTo (lookAt s me k mark fails) (downgradedWord (s .word)) (downgradedTo (s .th (me .0) .holding)) (afterDowngrade (s .word)))
+  succeeds : (seen : Word) → s .th (me .0) .place ≡ DowngradeSlowCas seen → queued (s .word) ≡ true → (mark : Mark) (fails : Bool) (k : ℕ)
+      → Kept n s g me k (writesTo (lookAt s me k mark fails) (downgradedWord (s .word)) (downgradedTo (s .th (me .0) .holding)) (afterDowngrade (s .word)))
   succeeds seen here q mark fails k = by (queueLocked (s .word)) refl
     where
-      by : (l : Bool) → queueLocked (s .word) ≡ l → Kept n s g me k (writesTo (lookAt s me k mark fails) (pick l (setDowngraded (s .word)) (word (SINGLE + LOCKED))) (downgradedTo (s .th (me .0) .holding)) (pick l (end Done) (walkFrom Downgrade (s .word))))
+      by : (l : Bool) → queueLocked (s .word) ≡ l
+          → Kept n s g me k (writesTo (lookAt s me k mark fails) (pick l (setDowngraded (s .word)) (word (SINGLE + LOCKED))) (downgradedTo (s .th (me .0) .holding)) (pick l (end Done) (walkFrom Downgrade (s .word))))
       by true l = kept-still n s g me k _ _ g (downgrade-ends me g _ seen here) (finish n s g i (me .0) tin down _ _ (handed-over q l))
       by false l = kept-still n s g me k _ _ (took g (me .0)) (downgrade-takes me g _ seen here _ _ _ _ (record { none = rw is at (i .queue .know (me .0)); is = refl })) (takes-all q l)
 
 module _ (n : ℕ) (s : Lock) (g : Ghost) (i : Inv n s g) (me : ThreadNumber) (tin : me .0 < n) (mark : Mark) (fails : Bool) (k : ℕ) where
   -- on to the slow compare, with the word as it is
-  slowly : (needsQueue : Bool) (is : aboutAt s (me .0) ≡ off writes false needsQueue false) → queued (s .word) ≡ true → Inv n (moved s (me .0) (s .word) (placed (s .th (me .0)) (DowngradeSlowCas (s .word))) (s .nd)) g
+  slowly : (needsQueue : Bool) (is : aboutAt s (me .0) ≡ off writes false needsQueue false) → queued (s .word) ≡ true
+      → Inv n (moved s (me .0) (s .word) (placed (s .th (me .0)) (DowngradeSlowCas (s .word))) (s .nd)) g
   slowly needsQueue is q = hop n s g i (me .0) tin (down n s g i me tin needsQueue is) (DowngradeSlowCas (s .word)) (is-off _ _ _ _) (holds n s g i me tin needsQueue is) (λ _. q) (rw is) (rw is (never refl))
 
   pub kept-downgrade-cas : s .th (me .0) .place ≡ DowngradeCas → Goes n s g me mark fails k (λ v. downgradeCasOf v)

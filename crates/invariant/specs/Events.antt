@@ -160,7 +160,8 @@ module _ (m : Machine) (ok : Ok m) (me : ThreadNumber) (tin : me .0 < m .count) 
         found : (j : ℕ) × (slotOf tail (m .count) ≡ At j) → markOf m tail ≡ Missing → ⊥
         found x = subst (λ (z : Slot). markBy m z ≡ Missing → ⊥) (sym (x .1)) (mark (nodeAt m (x .0) .writer))
 
-    touching-safe : haltedOf (accessOf me p .kind) (threadAt m (me .0) .token) fails ≡ Fine → Safe m (ok .ghost) me (touchingBy m me fails p (slotOf (touchedOf (accessOf me p) me) (m .count)))
+    touching-safe : haltedOf (accessOf me p .kind) (threadAt m (me .0) .token) fails ≡ Fine
+        → Safe m (ok .ghost) me (touchingBy m me fails p (slotOf (touchedOf (accessOf me p) me) (m .count)))
     touching-safe fine = by (slotOf (touchedOf (accessOf me p) me) (m .count)) refl
       where
         by : (z : Slot) → slotOf (touchedOf (accessOf me p) me) (m .count) ≡ z → Safe m (ok .ghost) me (touchingBy m me fails p z)

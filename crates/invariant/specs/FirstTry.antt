@@ -42,7 +42,8 @@ module _ (n : ℕ) (s : Lock) (g : Ghost) (i : Inv n s g) (me : ThreadNumber) (t
     no-leaver : leaver (s .th (me .0)) ≡ 0
     no-leaver = rw told
 
-    on-to : (q : Place) → Off (about q) → Allowed (about q .may) (s .th (me .0) .holding) → about q .needsQueue ≡ false → about q .leaves ≡ false → Inv n (moved s (me .0) (s .word) (placed (s .th (me .0)) q) (s .nd)) g
+    on-to : (q : Place) → Off (about q) → Allowed (about q .may) (s .th (me .0) .holding) → about q .needsQueue ≡ false → about q .leaves ≡ false
+        → Inv n (moved s (me .0) (s .word) (placed (s .th (me .0)) q) (s .nd)) g
     on-to q o a needs leaves = hop n s g i (me .0) tin is-first q o a (never needs) (rw (leaves, told)) (rw told (never refl))
 
     judged : (blocking : Bool) (r : ReadLocked) → Kept n s g me k (tryReadBy (lookAt s me k mark fails) blocking (s .word) r)
@@ -53,11 +54,14 @@ module _ (n : ℕ) (s : Lock) (g : Ghost) (i : Inv n s g) (me : ThreadNumber) (t
   pub kept-try-read-load : (blocking : Bool) → s .th (me .0) .place ≡ TryReadLoad blocking → Goes n s g me mark fails k (λ v. tryReadLoadOf v blocking)
   kept-try-read-load blocking here = judged (TryReadLoad blocking) here refl refl blocking (readLockOf (s .word))
 
-  at-end : (p : Place) → s .th (me .0) .place ≡ p → still p ≡ true → (blocking : Bool) (w : Word) (h : Holding) → Inv n (moved s (me .0) w (record { place = Idle; token = s .th (me .0) .token; holding = h }) (s .nd)) g → Kept n s g me k (writes (lookAt s me k mark fails) w h (granted blocking))
+  at-end : (p : Place) → s .th (me .0) .place ≡ p → still p ≡ true → (blocking : Bool) (w : Word) (h : Holding)
+      → Inv n (moved s (me .0) w (record { place = Idle; token = s .th (me .0) .token; holding = h }) (s .nd)) g
+      → Kept n s g me k (writes (lookAt s me k mark fails) w h (granted blocking))
   at-end p here unmoved true w h j = kept-still n s g me k _ _ g (stood me g _ p here unmoved _ refl) j
   at-end p here unmoved false w h j = kept-still n s g me k _ _ g (stood me g _ p here unmoved _ refl) j
 
-  pub kept-try-read-cas : (blocking : Bool) (seen : Word) → s .th (me .0) .place ≡ TryReadCas blocking seen → Goes n s g me mark fails k (λ v. tryReadCasOf v blocking seen)
+  pub kept-try-read-cas : (blocking : Bool) (seen : Word) → s .th (me .0) .place ≡ TryReadCas blocking seen
+      → Goes n s g me mark fails k (λ v. tryReadCasOf v blocking seen)
   kept-try-read-cas blocking seen here = pick-both (Kept n s g me k) (agreesOf (lookAt s me k mark fails) seen) _ _ (λ e. by (agreed (lookAt s me k mark fails) seen e) (readLockOf seen) refl) (λ _. again)
     where
       again : Kept n s g me k (tryReadJudged (lookAt s me k mark fails) blocking (s .word))

@@ -36,7 +36,8 @@ module _ (s : Lock) (t : ℕ) (x : Thread) (nd : ℕ → Node) where
       at zero = none
       at (suc u) = upd-cases (λ u y. pick (about (y .place) .registered) (not (nd (suc u) .completed)) false ≡ wait (suc u)) (s .th) t x own others u
 
-  pub view : (w : Word) (l : Links) (wait : ℕ → Bool) → linksOf nd ≡ l → waitOf (upd (s .th) t x) nd ≡ wait → queueOf (moved s t w x nd) ≡ Q.moved (queueOf s) t l wait (about (x .place) .role)
+  pub view : (w : Word) (l : Links) (wait : ℕ → Bool) → linksOf nd ≡ l → waitOf (upd (s .th) t x) nd ≡ wait
+      → queueOf (moved s t w x nd) ≡ Q.moved (queueOf s) t l wait (about (x .place) .role)
   view w l wait e f = λ i. record { links = e i; wait = f i; role = map-upd (λ y. about (y .place) .role) (s .th) t x i }
 
   -- a sum over the threads, after t became x
@@ -55,7 +56,8 @@ module _ (n : ℕ) (s : Lock) (g g′ : Ghost) (t : ℕ) (w : Word) (x : Thread)
     pub inside : t < n
     pub owner : weight (about (x .place) .owner) + weight (queueLocked (s .word)) ≡ weight (aboutAt s t .owner) + weight (queueLocked w)
     pub may : Allowed (about (x .place) .may) (x .holding)
-    pub count : (r v l : ℕ) → r + readsOf (s .th t .holding) ≡ readers n s + readsOf (x .holding) → v + writesOf (s .th t .holding) ≡ writers n s + writesOf (x .holding) → l + leaver (s .th t) ≡ leavers n s + leaver x → Count w r v l
+    pub count : (r v l : ℕ) → r + readsOf (s .th t .holding) ≡ readers n s + readsOf (x .holding)
+        → v + writesOf (s .th t .holding) ≡ writers n s + writesOf (x .holding) → l + leaver (s .th t) ≡ leavers n s + leaver x → Count w r v l
     pub needs : about (x .place) .needsQueue ≡ true → queued w ≡ true
     pub needs-all : (u : ℕ) → u ≢ t → aboutAt s u .needsQueue ≡ true → queued w ≡ true
     pub plain : about (x .place) .reader ≡ true → downgraded w ≡ false
@@ -141,7 +143,9 @@ module _ (n : ℕ) (s : Lock) (g g′ : Ghost) (t : ℕ) (x : Thread) (nd : ℕ 
     seen-to = λ a b d. let y : (u : ℕ) × Responsible s g u = i .seen-to a b d in c .seen-to d (y .0) (y .1);
   })
     where
-      same-count : (r v l : ℕ) → r + readsOf (s .th t .holding) ≡ readers n s + readsOf (s .th t .holding) → v + writesOf (s .th t .holding) ≡ writers n s + writesOf (s .th t .holding) → l + leaver (s .th t) ≡ leavers n s + leaver (s .th t) → Count (s .word) r v l
+      same-count : (r v l : ℕ) → r + readsOf (s .th t .holding) ≡ readers n s + readsOf (s .th t .holding)
+          → v + writesOf (s .th t .holding) ≡ writers n s + writesOf (s .th t .holding) → l + leaver (s .th t) ≡ leavers n s + leaver (s .th t)
+          → Count (s .word) r v l
       same-count r v l er ev el =
           let e : r ≡ readers n s = omega arith in
           let f : v ≡ writers n s = omega arith in
@@ -177,7 +181,8 @@ module _ (n : ℕ) (s : Lock) (g : Ghost) (t : ℕ) (x : Thread) (nd : ℕ → N
     pub token : about (x .place) .asleep ≡ true → nd (suc t) .completed ≡ true → x .token ≡ true
     -- a contending or completed thread still sees to the queue
     pub contending : aboutAt s t .contends ≡ true → about (x .place) .contends ≡ true
-    pub called : aboutAt s t .registered ≡ true → s .nd (suc t) .completed ≡ true → ((about (x .place) .registered ≡ true) × (nd (suc t) .completed ≡ true)) ⊎ (about (x .place) .contends ≡ true)
+    pub called : aboutAt s t .registered ≡ true → s .nd (suc t) .completed ≡ true
+        → ((about (x .place) .registered ≡ true) × (nd (suc t) .completed ≡ true)) ⊎ (about (x .place) .contends ≡ true)
 
   pub stay : Inv n s g → Stay → Inv n (moved s t (s .word) x nd) g
   stay i c = glide n s g g t x nd i (record {

@@ -57,7 +57,8 @@ abbrev pub placed : Thread → Place → Thread
 placed x p = record { place = p; token = x .token; holding = x .holding }
 
 -- the word and the thread's record may change, the node is as it was
-pub kept-still : (n : ℕ) (s : Lock) (g : Ghost) (me : ThreadNumber) (k : ℕ) (w : Word) (x : Thread) (g′ : Ghost) → Went me (s .th (me .0) .place) g (x .place) g′ → Inv n (moved s (me .0) w x (s .nd)) g′ →
+pub kept-still : (n : ℕ) (s : Lock) (g : Ghost) (me : ThreadNumber) (k : ℕ) (w : Word) (x : Thread) (g′ : Ghost)
+    → Went me (s .th (me .0) .place) g (x .place) g′ → Inv n (moved s (me .0) w x (s .nd)) g′ →
     (h : Ghost) × Inv n (moved s (me .0) w x (upd (s .nd) k (s .nd k))) h × Went me (s .th (me .0) .place) g (x .place) h
 kept-still n s g me k w x g′ went i = (g′, subst (λ nd. Inv n (moved s (me .0) w x nd) g′) (sym (upd-self (s .nd) k)) i, went)
 

@@ -178,7 +178,8 @@ module _ (me : ThreadNumber) (g : Ghost) where
 
     -- ── and those that may ──
 
-    pub unregistered : (writer : Bool) (reloads : ℕ) (seen : Word) → q ≡ RegisterCas writer reloads seen → (p′ : Place) → standOf p′ ≡ elsewhere → isAside p′ ≡ false → Went me q g p′ g
+    pub unregistered : (writer : Bool) (reloads : ℕ) (seen : Word) → q ≡ RegisterCas writer reloads seen → (p′ : Place) → standOf p′ ≡ elsewhere
+        → isAside p′ ≡ false → Went me q g p′ g
     unfolding queueEffect
     unregistered writer reloads seen here p′ e f = rw (here, e) (refl, f)
 
@@ -186,15 +187,18 @@ module _ (me : ThreadNumber) (g : Ghost) where
     unfolding queueEffect standOf
     registers-waits writer w reloads seen here = subst (λ x. Went me x g (CompletedLoad w) (registered g (suc (me .0)))) (sym here) (record { node = sym (add-one (me .0)); is = refl }, (refl, refl))
 
-    pub registers-walks : (writer : Bool) (reloads : ℕ) (seen : Word) (k : Walk) (to : Word) (current : NodeNumber) → q ≡ RegisterCas writer reloads seen → Went me q g (WalkTail k to current) (registered g (suc (me .0)))
+    pub registers-walks : (writer : Bool) (reloads : ℕ) (seen : Word) (k : Walk) (to : Word) (current : NodeNumber)
+        → q ≡ RegisterCas writer reloads seen → Went me q g (WalkTail k to current) (registered g (suc (me .0)))
     unfolding queueEffect standOf
     registers-walks writer reloads seen k to current here = subst (λ x. Went me x g (WalkTail k to current) (registered g (suc (me .0)))) (sym here) (record { node = sym (add-one (me .0)); is = refl }, (refl, refl))
 
-    pub sets-aside : (who : Who) (seen : Word) (tail prev : NodeNumber) → q ≡ SplitStore who seen tail prev → (g′ : Ghost) → SetsAside g (me .0) (tail .0) g′ → Went me q g (SplitCas who seen tail) g′
+    pub sets-aside : (who : Who) (seen : Word) (tail prev : NodeNumber) → q ≡ SplitStore who seen tail prev → (g′ : Ghost)
+        → SetsAside g (me .0) (tail .0) g′ → Went me q g (SplitCas who seen tail) g′
     unfolding queueEffect standOf
     sets-aside who seen tail prev here g′ m = subst (λ x. Went me x g (SplitCas who seen tail) g′) (sym here) (m, (refl, refl))
 
-    pub takes-tail : (who : Who) (seen : Word) (tail prev : NodeNumber) → q ≡ SplitCas who seen tail → TakesTail g (me .0) (tail .0) g → Went me q g (WakeStore who tail prev) g
+    pub takes-tail : (who : Who) (seen : Word) (tail prev : NodeNumber) → q ≡ SplitCas who seen tail → TakesTail g (me .0) (tail .0) g
+        → Went me q g (WakeStore who tail prev) g
     unfolding queueEffect standOf
     takes-tail who seen tail prev here m = subst (λ x. Went me x g (WakeStore who tail prev) g) (sym here) (m, (refl, refl))
 
@@ -202,7 +206,8 @@ module _ (me : ThreadNumber) (g : Ghost) where
     unfolding queueEffect standOf
     split-fails who seen reported tail here = subst (λ x. Went me x g (SplitRestore who seen tail reported) g) (sym here) (refl, refl)
 
-    pub restores-tail : (who : Who) (seen reported : Word) (tail : NodeNumber) → q ≡ SplitRestore who seen tail reported → (k : Walk) (to : Word) (current : NodeNumber) (g′ : Ghost) → Restores g (me .0) (tail .0) g′ → Went me q g (WalkTail k to current) g′
+    pub restores-tail : (who : Who) (seen reported : Word) (tail : NodeNumber) → q ≡ SplitRestore who seen tail reported
+        → (k : Walk) (to : Word) (current : NodeNumber) (g′ : Ghost) → Restores g (me .0) (tail .0) g′ → Went me q g (WalkTail k to current) g′
     unfolding queueEffect standOf
     restores-tail who seen reported tail here k to current g′ m = subst (λ x. Went me x g (WalkTail k to current) g′) (sym here) (m, (refl, refl))
 
@@ -210,11 +215,13 @@ module _ (me : ThreadNumber) (g : Ghost) where
     unfolding queueEffect standOf
     takes-all who seen tail here g′ m = subst (λ x. Went me x g (WakePrev who tail) g′) (sym here) (m, (refl, refl))
 
-    pub take-fails : (who : Who) (seen : Word) (tail : NodeNumber) → q ≡ TakeCas who seen tail → (k : Walk) (to : Word) (current : NodeNumber) → Went me q g (WalkTail k to current) g
+    pub take-fails : (who : Who) (seen : Word) (tail : NodeNumber) → q ≡ TakeCas who seen tail → (k : Walk) (to : Word) (current : NodeNumber)
+        → Went me q g (WalkTail k to current) g
     unfolding queueEffect standOf
     take-fails who seen tail here k to current = subst (λ x. Went me x g (WalkTail k to current) g) (sym here) (refl, refl)
 
-    pub downgrade-takes : (seen : Word) → q ≡ DowngradeSlowCas seen → (k : Walk) (to : Word) (current : NodeNumber) (g′ : Ghost) → TakesAll g (me .0) g′ → Went me q g (WalkTail k to current) g′
+    pub downgrade-takes : (seen : Word) → q ≡ DowngradeSlowCas seen → (k : Walk) (to : Word) (current : NodeNumber) (g′ : Ghost)
+        → TakesAll g (me .0) g′ → Went me q g (WalkTail k to current) g′
     unfolding queueEffect standOf
     downgrade-takes seen here k to current g′ m = subst (λ x. Went me x g (WalkTail k to current) g′) (sym here) (m, (refl, refl))
 
@@ -226,19 +233,23 @@ module _ (me : ThreadNumber) (g : Ghost) where
     unfolding queueEffect standOf
     downgrade-fails seen to here = subst (λ x. Went me x g (DowngradeSlowCas to) g) (sym here) (refl, refl)
 
-    pub completes-more : (who : Who) (current prev : NodeNumber) → q ≡ WakeStore who current prev → (g′ : Ghost) → Completes g (me .0) (current .0) g′ → Went me q g (WakePrev who prev) g′
+    pub completes-more : (who : Who) (current prev : NodeNumber) → q ≡ WakeStore who current prev → (g′ : Ghost) → Completes g (me .0) (current .0) g′
+        → Went me q g (WakePrev who prev) g′
     unfolding queueEffect standOf
     completes-more who current prev here g′ m = subst (λ x. Went me x g (WakePrev who prev) g′) (sym here) (m, (refl, refl))
 
-    pub completes-waits : (who : Who) (writer : Bool) (current prev : NodeNumber) → q ≡ WakeStore who current prev → (g′ : Ghost) → Completes g (me .0) (current .0) g′ → Went me q g (CompletedLoad writer) g′
+    pub completes-waits : (who : Who) (writer : Bool) (current prev : NodeNumber) → q ≡ WakeStore who current prev → (g′ : Ghost)
+        → Completes g (me .0) (current .0) g′ → Went me q g (CompletedLoad writer) g′
     unfolding queueEffect standOf
     completes-waits who writer current prev here g′ m = subst (λ x. Went me x g (CompletedLoad writer) g′) (sym here) (m, (refl, refl))
 
-    pub completes-ends : (who : Who) (current prev : NodeNumber) → q ≡ WakeStore who current prev → (g′ : Ghost) → Completes g (me .0) (current .0) g′ → Went me q g Idle g′
+    pub completes-ends : (who : Who) (current prev : NodeNumber) → q ≡ WakeStore who current prev → (g′ : Ghost) → Completes g (me .0) (current .0) g′
+        → Went me q g Idle g′
     unfolding queueEffect standOf
     completes-ends who current prev here g′ m = subst (λ x. Went me x g Idle g′) (sym here) (m, (refl, refl))
 
 -- the three places that contend tell nothing of what was done
-pub contend-elsewhere : (writer : Bool) (reloads : ℕ) (seen : Word) → (standOf (ContendLoad writer reloads) ≡ elsewhere) × (standOf (ContendCas writer reloads seen) ≡ elsewhere) × (standOf (RegisterCas writer reloads seen) ≡ elsewhere)
+pub contend-elsewhere : (writer : Bool) (reloads : ℕ) (seen : Word)
+    → (standOf (ContendLoad writer reloads) ≡ elsewhere) × (standOf (ContendCas writer reloads seen) ≡ elsewhere) × (standOf (RegisterCas writer reloads seen) ≡ elsewhere)
 unfolding standOf
 contend-elsewhere writer reloads seen = (refl, refl, refl)

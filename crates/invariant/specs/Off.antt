@@ -52,7 +52,8 @@ module _ (n : ℕ) (s : Lock) (g : Ghost) (i : Inv n s g) (t : ℕ) (tin : t < n
       same = waits-as s t x (s .nd) (waitOf (s .th) (s .nd)) refl (rw (o′ .registered, o .registered)) (λ u ne. refl)
 
   -- on to another place, with the word as it is
-  pub hop : (p : Place) → Off (about p) → Allowed (about p .may) (s .th t .holding) → (about p .needsQueue ≡ true → queued (s .word) ≡ true) → leaver (placed (s .th t) p) ≡ leaver (s .th t) → (aboutAt s t .contends ≡ true → about p .contends ≡ true) →
+  pub hop : (p : Place) → Off (about p) → Allowed (about p .may) (s .th t .holding) → (about p .needsQueue ≡ true → queued (s .word) ≡ true)
+      → leaver (placed (s .th t) p) ≡ leaver (s .th t) → (aboutAt s t .contends ≡ true → about p .contends ≡ true) →
       Inv n (moved s t (s .word) (placed (s .th t) p) (s .nd)) g
   hop p o′ may needs leaving contending = stay n s g t (placed (s .th t) p) (s .nd) i (record {
     queue = queue-off (s .word) (placed (s .th t) p) o′;
@@ -81,7 +82,8 @@ module _ (n : ℕ) (s : Lock) (g : Ghost) (i : Inv n s g) (t : ℕ) (tin : t < n
     pub handed : queued w ≡ true → downgraded w ≡ true → (queueLocked w ≡ true) × (locked w ≡ true)
     pub bare : queued w ≡ false → downgraded w ≡ false
     pub plain : (u : ℕ) → u ≢ t → aboutAt s u .reader ≡ true → downgraded w ≡ false
-    pub count : (r v l : ℕ) → r + readsOf (s .th t .holding) ≡ readers n s + readsOf h → v + writesOf (s .th t .holding) ≡ writers n s + writesOf h → l + leaver (s .th t) ≡ leavers n s → Count w r v l
+    pub count : (r v l : ℕ) → r + readsOf (s .th t .holding) ≡ readers n s + readsOf h → v + writesOf (s .th t .holding) ≡ writers n s + writesOf h
+        → l + leaver (s .th t) ≡ leavers n s → Count w r v l
     pub unreal : queued w ≡ true → downgraded w ≡ false → (r : ℕ) → r + readsOf (s .th t .holding) ≡ readers n s + readsOf h → r ≡ 0
     pub seen-to : queued w ≡ true → locked w ≡ false → queueLocked w ≡ false → ⊥
 

@@ -85,10 +85,12 @@ module _ (n : ℕ) (s : Lock) (g : Ghost) (i : Inv n s g) (t : ℕ) (tin : t < n
   waits-alike = waits-as s t (placed (s .th t) p) nd (waitOf (s .th) (s .nd)) refl (rw (a .registered, k .completed (suc t))) (λ u ne. rw (k .completed (suc u)))
 
   -- the queue's step is the lock's
-  pub seen-as : (g′ : Ghost) (w : Word) → Q.Inv g′ (Q.moved (queueOf s) t l (waitOf (s .th) (s .nd)) (about p .role)) → Q.Inv g′ (queueOf (moved s t w (placed (s .th t) p) nd))
+  pub seen-as : (g′ : Ghost) (w : Word) → Q.Inv g′ (Q.moved (queueOf s) t l (waitOf (s .th) (s .nd)) (about p .role))
+      → Q.Inv g′ (queueOf (moved s t w (placed (s .th t) p) nd))
   seen-as g′ w q = subst (λ z. Q.Inv g′ z) (sym (view s t (placed (s .th t) p) nd w l (waitOf (s .th) (s .nd)) (k .links) waits-alike)) q
 
-  pub stroll : (Real n s → about p .owner ≡ true → handsOff (about p .seen) ≡ true) → Q.Inv g (Q.moved (queueOf s) t l (waitOf (s .th) (s .nd)) (about p .role)) → Inv n (moved s t (s .word) (placed (s .th t) p) nd) g
+  pub stroll : (Real n s → about p .owner ≡ true → handsOff (about p .seen) ≡ true)
+      → Q.Inv g (Q.moved (queueOf s) t l (waitOf (s .th) (s .nd)) (about p .role)) → Inv n (moved s t (s .word) (placed (s .th t) p) nd) g
   stroll calm q = stay n s g t (placed (s .th t) p) nd i (record {
     queue = seen-as g (s .word) q;
     inside = tin;

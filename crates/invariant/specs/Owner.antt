@@ -59,7 +59,8 @@ module _ (n : ℕ) (s : Lock) (g : Ghost) (i : Inv n s g) (me : ThreadNumber) (t
 
   -- it finds the tail again, from the word as it is
   module _ (r : Role) (ok : Bool) (is : aboutAt s (me .0) ≡ owning who seen r ok) where
-    pub again : Q.Inv g (Q.moved (queueOf s) (me .0) (linksOf (s .nd)) (waitOf (s .th) (s .nd)) none) → Inv n (moved s (me .0) (s .word) (placed (s .th (me .0)) (WalkTail (Queue who) (s .word) (toNode (s .word)))) (s .nd)) g
+    pub again : Q.Inv g (Q.moved (queueOf s) (me .0) (linksOf (s .nd)) (waitOf (s .th) (s .nd)) none)
+        → Inv n (moved s (me .0) (s .word) (placed (s .th (me .0)) (WalkTail (Queue who) (s .word) (toNode (s .word)))) (s .nd)) g
     again down = stroll n s g i (me .0) tin (WalkTail (Queue who) (s .word) (toNode (s .word))) (rw is (alike-own who seen (s .word) r _ ok true refl refl)) (s .nd) (linksOf (s .nd)) (unlinked (s .nd)) (λ x _. real-hands-off n s g i x) begun
       where
         v : Newest g (s .word)
@@ -127,7 +128,8 @@ module _ (n : ℕ) (s : Lock) (g : Ghost) (i : Inv n s g) (me : ThreadNumber) (t
         seen-to = λ _ e _. (me .0, wakes (sees (sym same-locked ∙ e)));
       })
         where
-          counts : (r v k : ℕ) → r + readsOf (s .th (me .0) .holding) ≡ readers n s + readsOf (s .th (me .0) .holding) → v + writesOf (s .th (me .0) .holding) ≡ writers n s + writesOf (s .th (me .0) .holding) → k + 0 ≡ leavers n s + 0 → Count w r v k
+          counts : (r v k : ℕ) → r + readsOf (s .th (me .0) .holding) ≡ readers n s + readsOf (s .th (me .0) .holding)
+              → v + writesOf (s .th (me .0) .holding) ≡ writers n s + writesOf (s .th (me .0) .holding) → k + 0 ≡ leavers n s + 0 → Count w r v k
           counts r v k er ev ek =
               let a : r ≡ readers n s = omega arith in
               let b : v ≡ writers n s = omega arith in
@@ -169,5 +171,6 @@ module _ (n : ℕ) (s : Lock) (g : Ghost) (i : Inv n s g) (me : ThreadNumber) (t
       near (Waiter writer) = refl
       near Leaver = refl
 
-      clears : (o : Who) → o ≡ who → s .word ≡ seen → Kept n s g me (suc (me .0)) (writes (lookAt s me (suc (me .0)) mark fails) (clearQueueLocked seen) (s .th (me .0) .holding) (afterQueue o))
+      clears : (o : Who) → o ≡ who → s .word ≡ seen
+          → Kept n s g me (suc (me .0)) (writes (lookAt s me (suc (me .0)) mark fails) (clearQueueLocked seen) (s .th (me .0) .holding) (afterQueue o))
       clears o z same = kept-still n s g me (suc (me .0)) _ _ g (stood me g _ (QueueCas who seen) here refl _ (near o)) (subst (λ x. Inv n (moved s (me .0) (clearQueueLocked x) (placed (s .th (me .0)) (afterQueue o .place)) (s .nd)) g) same (ends o z same))

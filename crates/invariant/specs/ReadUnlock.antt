@@ -68,7 +68,8 @@ module _ (n : ℕ) (s : Lock) (g : Ghost) (i : Inv n s g) (me : ThreadNumber) (t
 
   -- ── the count stands in the queue: find it ──
 
-  walks : queued (s .word) ≡ true → downgraded (s .word) ≡ false → Inv n (moved s (me .0) (s .word) (placed (s .th (me .0)) (WalkTail ReadUnlock (s .word) (toNode (s .word)))) (s .nd)) g
+  walks : queued (s .word) ≡ true → downgraded (s .word) ≡ false
+      → Inv n (moved s (me .0) (s .word) (placed (s .th (me .0)) (WalkTail ReadUnlock (s .word) (toNode (s .word)))) (s .nd)) g
   walks q d = stay n s g (me .0) (placed (s .th (me .0)) (WalkTail ReadUnlock (s .word) (toNode (s .word)))) (s .nd) i (record {
     queue = subst (λ z. Q.Inv g z) (sym (view s (me .0) (placed (s .th (me .0)) (WalkTail ReadUnlock (s .word) (toNode (s .word)))) (s .nd) (s .word) (linksOf (s .nd)) (waitOf (s .th) (s .nd)) refl (waits-as s (me .0) (placed (s .th (me .0)) (WalkTail ReadUnlock (s .word) (toNode (s .word)))) (s .nd) (waitOf (s .th) (s .nd)) refl (rw is) (λ u ne. refl)))) begun;
     inside = tin;
@@ -110,7 +111,8 @@ module _ (n : ℕ) (s : Lock) (g : Ghost) (i : Inv n s g) (me : ThreadNumber) (t
   -- ── the compare ──
 
   -- a downgrade is taken back: nobody holds, and the owner of the queue sees to it
-  retracted : queued (s .word) ≡ true → downgraded (s .word) ≡ true → Ended n s g i (me .0) tin down (clearLocked (clearDowngraded (s .word))) (releasedRead (s .th (me .0) .holding))
+  retracted : queued (s .word) ≡ true → downgraded (s .word) ≡ true
+      → Ended n s g i (me .0) tin down (clearLocked (clearDowngraded (s .word))) (releasedRead (s .th (me .0) .holding))
   retracted q d = record {
     same-queue = clear-keeps LOCKED QUEUED refl (clearDowngraded (s .word)) ∙ clear-keeps DOWNGRADED QUEUED refl (s .word);
     same-owner = same-owner;

@@ -73,7 +73,8 @@ module _ (n : ℕ) (s : Lock) (g : Ghost) (i : Inv n s g) (me : ThreadNumber) (t
   joined : Q.Inv (registered g (suc (me .0))) (Q.moved (queueOf s) (me .0) (linksOf (s .nd)) (upd (waitOf (s .th) (s .nd)) (suc (me .0)) true) none)
   joined = by (queued (s .word)) refl
     where
-      by : (q : Bool) → queued (s .word) ≡ q → Q.Inv (registered g (suc (me .0))) (Q.moved (queueOf s) (me .0) (linksOf (s .nd)) (upd (waitOf (s .th) (s .nd)) (suc (me .0)) true) none)
+      by : (q : Bool) → queued (s .word) ≡ q
+          → Q.Inv (registered g (suc (me .0))) (Q.moved (queueOf s) (me .0) (linksOf (s .nd)) (upd (waitOf (s .th) (s .nd)) (suc (me .0)) true) none)
       by false e = Registering.register-first g (queueOf s) (i .queue) (me .0) (withoutFlags (s .word) .0) (role-is false e) (i .nobody e)
       by true e =
           let v : Newest g (s .word) = i .newest e in
@@ -177,14 +178,16 @@ module _ (n : ℕ) (s : Lock) (g : Ghost) (i : Inv n s g) (me : ThreadNumber) (t
         by-handed true q d = (registered-queue-locked (s .word) me ∙ q, registered-locked (s .word) me ∙ i .handed q d .1)
         by-handed false q d = never (i .bare q .1) d
 
-        same-count : (r v l : ℕ) → r + readsOf (s .th (me .0) .holding) ≡ readers n s + readsOf (s .th (me .0) .holding) → v + writesOf (s .th (me .0) .holding) ≡ writers n s + writesOf (s .th (me .0) .holding) → l + 0 ≡ leavers n s + 0 → Count w r v l
+        same-count : (r v l : ℕ) → r + readsOf (s .th (me .0) .holding) ≡ readers n s + readsOf (s .th (me .0) .holding)
+            → v + writesOf (s .th (me .0) .holding) ≡ writers n s + writesOf (s .th (me .0) .holding) → l + 0 ≡ leavers n s + 0 → Count w r v l
         same-count r v l er ev el =
             let a : r ≡ readers n s = omega arith in
             let b : v ≡ writers n s = omega arith in
             let c : l ≡ leavers n s = omega arith in
             rw (a, b, c) counts
 
-        oldest-counts : (q : Bool) → queued (s .word) ≡ q → Real n (moved s (me .0) w (placed (s .th (me .0)) p) (s .nd)) → s .nd (upd (g .log) (g .hi) (suc (me .0)) (g .lo)) .next .0 ≡ SINGLE * readers n s
+        oldest-counts : (q : Bool) → queued (s .word) ≡ q → Real n (moved s (me .0) w (placed (s .th (me .0)) p) (s .nd))
+            → s .nd (upd (g .log) (g .hi) (suc (me .0)) (g .lo)) .next .0 ≡ SINGLE * readers n s
         oldest-counts true q r =
             let v : Newest g (s .word) = i .newest q in
             ap (λ k. s .nd k .next .0) (upd-other (g .log) (g .hi) (suc (me .0)) (g .lo) (λ e. omega arith)) ∙ i .counted (back q r)
@@ -193,16 +196,19 @@ module _ (n : ℕ) (s : Lock) (g : Ghost) (i : Inv n s g) (me : ThreadNumber) (t
         seen-held : Real n (moved s (me .0) w (placed (s .th (me .0)) p) (s .nd)) → handsOff w ≡ true
         seen-held r = rw (not-false (locked w) (λ e. omega (arith, r .some, same-readers, counts .unlocked (registered-queued (s .word) me) e .reads)), r .plain)
 
-        others : (q : Bool) → queued (s .word) ≡ q → Real n (moved s (me .0) w (placed (s .th (me .0)) p) (s .nd)) → (u : ℕ) → aboutAt s u .owner ≡ true → handsOff (aboutAt s u .seen) ≡ true
+        others : (q : Bool) → queued (s .word) ≡ q → Real n (moved s (me .0) w (placed (s .th (me .0)) p) (s .nd)) → (u : ℕ)
+            → aboutAt s u .owner ≡ true → handsOff (aboutAt s u .seen) ≡ true
         others true q r u e = i .calm (back q r) u e
         others false q r u e = never (unowned n s g i (i .bare q .0) u) e
 
   -- on to wait, by a thread that does not own the queue
-  pub register-waits : queued (s .word) ≡ queueLocked (s .word) → Inv n (moved s (me .0) w (placed (s .th (me .0)) (CompletedLoad writer)) (s .nd)) (registered g (suc (me .0)))
+  pub register-waits : queued (s .word) ≡ queueLocked (s .word)
+      → Inv n (moved s (me .0) w (placed (s .th (me .0)) (CompletedLoad writer)) (s .nd)) (registered g (suc (me .0)))
   register-waits same = register (CompletedLoad writer) (record { registered = refl; reader = refl; asleep = refl; unfilled = refl; ok = refl; leaves = refl; needsQueue = refl }) (λ h. h) (rw same (omega arith)) (never refl) joined
 
   -- or to walk, by the one that turned QUEUE_LOCKED on
-  pub register-walks : queued (s .word) ≡ true → queueLocked (s .word) ≡ false → Inv n (moved s (me .0) w (placed (s .th (me .0)) (WalkTail (Queue (Waiter writer)) w (toNode w))) (s .nd)) (registered g (suc (me .0)))
+  pub register-walks : queued (s .word) ≡ true → queueLocked (s .word) ≡ false
+      → Inv n (moved s (me .0) w (placed (s .th (me .0)) (WalkTail (Queue (Waiter writer)) w (toNode w))) (s .nd)) (registered g (suc (me .0)))
   register-walks q f = register (WalkTail (Queue (Waiter writer)) w (toNode w)) (record { registered = refl; reader = refl; asleep = refl; unfilled = refl; ok = refl; leaves = refl; needsQueue = refl }) (λ h. h) (rw (q, f)) (λ _. refl) begun
     where
       public-look : (c : Bool) → public (lookKind c) ≡ true
@@ -228,18 +234,22 @@ module _ (n : ℕ) (s : Lock) (g : Ghost) (i : Inv n s g) (me : ThreadNumber) (t
         unmoved = unregistered me g _ writer reloads seen here;
       }
 
-  succeeds : s .th (me .0) .place ≡ RegisterCas writer reloads (s .word) → Kept n s g me (suc (me .0)) (writes (lookAt s me (suc (me .0)) mark fails) (registeredOf (s .word) me) (s .th (me .0) .holding) (afterRegister writer (s .word) (registeredOf (s .word) me)))
+  succeeds : s .th (me .0) .place ≡ RegisterCas writer reloads (s .word)
+      → Kept n s g me (suc (me .0)) (writes (lookAt s me (suc (me .0)) mark fails) (registeredOf (s .word) me) (s .th (me .0) .holding) (afterRegister writer (s .word) (registeredOf (s .word) me)))
   succeeds here = by (queued (s .word)) (queueLocked (s .word)) refl refl
     where
-      by : (q l : Bool) → queued (s .word) ≡ q → queueLocked (s .word) ≡ l → Kept n s g me (suc (me .0)) (writes (lookAt s me (suc (me .0)) mark fails) (registeredOf (s .word) me) (s .th (me .0) .holding) (pick q (pick l (at (CompletedLoad writer)) (walkFrom (Queue (Waiter writer)) (registeredOf (s .word) me))) (at (CompletedLoad writer))))
+      by : (q l : Bool) → queued (s .word) ≡ q → queueLocked (s .word) ≡ l
+          → Kept n s g me (suc (me .0)) (writes (lookAt s me (suc (me .0)) mark fails) (registeredOf (s .word) me) (s .th (me .0) .holding) (pick q (pick l (at (CompletedLoad writer)) (walkFrom (Queue (Waiter writer)) (registeredOf (s .word) me))) (at (CompletedLoad writer))))
       by false l q e = kept-still n s g me (suc (me .0)) _ _ _ (registers-waits me g _ writer writer reloads (s .word) here) (register-waits n s g i me tin writer reloads here (q ∙ sym (i .bare q .0)))
       by true true q e = kept-still n s g me (suc (me .0)) _ _ _ (registers-waits me g _ writer writer reloads (s .word) here) (register-waits n s g i me tin writer reloads here (q ∙ sym e))
       by true false q e = kept-still n s g me (suc (me .0)) _ _ _ (registers-walks me g _ writer reloads (s .word) _ _ _ here) (register-walks n s g i me tin writer reloads here q e)
 
-  pub kept-register-cas : (seen : Word) → s .th (me .0) .place ≡ RegisterCas writer reloads seen → Goes n s g me mark fails (suc (me .0)) (λ v. registerCasOf v writer reloads seen)
+  pub kept-register-cas : (seen : Word) → s .th (me .0) .place ≡ RegisterCas writer reloads seen
+      → Goes n s g me mark fails (suc (me .0)) (λ v. registerCasOf v writer reloads seen)
   kept-register-cas seen here = pick-both (Kept n s g me (suc (me .0))) (agreesOf (lookAt s me (suc (me .0)) mark fails) seen) _ _
       (λ e. by seen (agreed (lookAt s me (suc (me .0)) mark fails) seen e) here)
       (λ _. contend n s g i me tin mark fails (unready seen here) writer reloads)
     where
-      by : (seen : Word) → s .word ≡ seen → s .th (me .0) .place ≡ RegisterCas writer reloads seen → Kept n s g me (suc (me .0)) (writes (lookAt s me (suc (me .0)) mark fails) (registeredOf seen me) (s .th (me .0) .holding) (afterRegister writer seen (registeredOf seen me)))
+      by : (seen : Word) → s .word ≡ seen → s .th (me .0) .place ≡ RegisterCas writer reloads seen
+          → Kept n s g me (suc (me .0)) (writes (lookAt s me (suc (me .0)) mark fails) (registeredOf seen me) (s .th (me .0) .holding) (afterRegister writer seen (registeredOf seen me)))
       by seen same = subst (λ x. s .th (me .0) .place ≡ RegisterCas writer reloads x → Kept n s g me (suc (me .0)) (writes (lookAt s me (suc (me .0)) mark fails) (registeredOf x me) (s .th (me .0) .holding) (afterRegister writer x (registeredOf x me)))) same succeeds

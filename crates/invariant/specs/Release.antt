@@ -97,7 +97,8 @@ module _ (n : ℕ) (s : Lock) (g : Ghost) (i : Inv n s g) (me : ThreadNumber) (t
     some = omega (arith, own, sum-le n (λ u. writesOf (s .th u .holding)) (me .0) tin, sum-le n (λ u. leaver (s .th u)) (me .0) tin)
 
     -- nobody holds then
-    none-left : (r v l : ℕ) → r + readsOf (s .th (me .0) .holding) ≡ readers n s + 0 → v + writesOf (s .th (me .0) .holding) ≡ writers n s + 0 → l + leaver (s .th (me .0)) ≡ leavers n s → Hold r v l 0 0 0
+    none-left : (r v l : ℕ) → r + readsOf (s .th (me .0) .holding) ≡ readers n s + 0 → v + writesOf (s .th (me .0) .holding) ≡ writers n s + 0
+        → l + leaver (s .th (me .0)) ≡ leavers n s → Hold r v l 0 0 0
     none-left r v l er ev el = record { reads = omega (arith, sole n s g i some, reads-not); writes = omega (arith, sole n s g i some, own); leaves = omega (arith, sole n s g i some, own) }
 
     -- the owner of the queue sees to it
@@ -182,7 +183,8 @@ module _ (n : ℕ) (s : Lock) (g : Ghost) (i : Inv n s g) (me : ThreadNumber) (t
     succeeds : Kept n s g me k (writesTo (lookAt s me k mark fails) (releasedTo (s .word)) (releasedWrite (s .th (me .0) .holding)) (afterRelease (s .word) (releasedTo (s .word))))
     succeeds = by (queueLocked (s .word)) refl
       where
-        by : (l : Bool) → queueLocked (s .word) ≡ l → Kept n s g me k (writesTo (lookAt s me k mark fails) (pick l (clearLocked (s .word)) (setQueueLocked (clearLocked (s .word)))) (releasedWrite (s .th (me .0) .holding)) (pick l (end Done) (walkFrom (Queue Leaver) (pick l (clearLocked (s .word)) (setQueueLocked (clearLocked (s .word)))))))
+        by : (l : Bool) → queueLocked (s .word) ≡ l
+            → Kept n s g me k (writesTo (lookAt s me k mark fails) (pick l (clearLocked (s .word)) (setQueueLocked (clearLocked (s .word)))) (releasedWrite (s .th (me .0) .holding)) (pick l (end Done) (walkFrom (Queue Leaver) (pick l (clearLocked (s .word)) (setQueueLocked (clearLocked (s .word)))))))
         by true e = kept-still n s g me k _ _ g (stood me g _ (ReleaseCas seen) here refl _ refl) (finish n s g i (me .0) tin down _ _ (left-to-owner e))
         by false e = kept-still n s g me k _ _ g (stood me g _ (ReleaseCas seen) here refl _ refl) (owns e)
 

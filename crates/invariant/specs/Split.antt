@@ -54,7 +54,9 @@ unheld-flags false false e = (refl, refl)
 
 module _ (n : ℕ) (s : Lock) (g : Ghost) (i : Inv n s g) (me : ThreadNumber) (tin : me .0 < n) (mark : Mark) (fails : Bool) (who : Who) (seen : Word) (tail : NodeNumber) where
   -- the owner goes on with the word that it saw, and no link changes
-  on-to : (r r′ : Role) (ok ok′ : Bool) → aboutAt s (me .0) ≡ owning who seen r ok → (p : Place) → about p ≡ owning who seen r′ ok′ → filled r′ ≡ false → ok′ ≡ true → Q.Inv g (Q.moved (queueOf s) (me .0) (linksOf (s .nd)) (waitOf (s .th) (s .nd)) r′) → Inv n (moved s (me .0) (s .word) (placed (s .th (me .0)) p) (s .nd)) g
+  on-to : (r r′ : Role) (ok ok′ : Bool) → aboutAt s (me .0) ≡ owning who seen r ok → (p : Place) → about p ≡ owning who seen r′ ok′
+      → filled r′ ≡ false → ok′ ≡ true → Q.Inv g (Q.moved (queueOf s) (me .0) (linksOf (s .nd)) (waitOf (s .th) (s .nd)) r′)
+      → Inv n (moved s (me .0) (s .word) (placed (s .th (me .0)) p) (s .nd)) g
   on-to r r′ ok ok′ is p on f e q = stroll n s g i (me .0) tin p (rw (is, on) (alike-own who seen seen r r′ ok ok′ f e)) (s .nd) (linksOf (s .nd)) (unlinked (s .nd)) (λ x _. ap handsOff (ap (λ a. a .seen) on) ∙ (rw is at (i .calm x (me .0))) refl) (rw on q)
 
   pub kept-split-prev : s .th (me .0) .place ≡ SplitPrev who seen tail → Goes n s g me mark fails (tail .0) (λ v. splitPrevOf v who seen tail)
@@ -85,7 +87,8 @@ module _ (n : ℕ) (s : Lock) (g : Ghost) (i : Inv n s g) (me : ThreadNumber) (t
     alone : Q.Lonely (queueOf s) (me .0)
     alone = lonely n s g i (me .0) (rw is refl) off
 
-  pub kept-split-store : (prev : NodeNumber) → s .th (me .0) .place ≡ SplitStore who seen tail prev → Goes n s g me mark fails (toNode seen .0) (λ v. splitStoreOf v who seen tail prev)
+  pub kept-split-store : (prev : NodeNumber) → s .th (me .0) .place ≡ SplitStore who seen tail prev
+      → Goes n s g me mark fails (toNode seen .0) (λ v. splitStoreOf v who seen tail prev)
   kept-split-store prev here = (
     asided g (me .0) (g .tk (toNode seen .0)),
     glide n s g (asided g (me .0) (g .tk (toNode seen .0))) (me .0) (placed (s .th (me .0)) (SplitCas who seen tail)) nd′ i (record {
@@ -159,7 +162,8 @@ module _ (n : ℕ) (s : Lock) (g : Ghost) (i : Inv n s g) (me : ThreadNumber) (t
 
   -- ── the restore: the OLD head's tail, and the walk goes on from the reported word ──
 
-  pub kept-split-restore : (reported : Word) → s .th (me .0) .place ≡ SplitRestore who seen tail reported → Goes n s g me mark fails (toNode seen .0) (λ v. splitRestoreOf v who seen tail reported)
+  pub kept-split-restore : (reported : Word) → s .th (me .0) .place ≡ SplitRestore who seen tail reported
+      → Goes n s g me mark fails (toNode seen .0) (λ v. splitRestoreOf v who seen tail reported)
   kept-split-restore reported here = (
     restored g (me .0) (g .taken (me .0) .beg),
     glide n s g (restored g (me .0) (g .taken (me .0) .beg)) (me .0) (placed (s .th (me .0)) (WalkTail (Queue who) reported (toNode reported))) (upd (s .nd) (toNode seen .0) (withTail (s .nd (toNode seen .0)) tail)) i (record {
@@ -198,6 +202,7 @@ module _ (n : ℕ) (s : Lock) (g : Ghost) (i : Inv n s g) (me : ThreadNumber) (t
       back = Taking.restore g (queueOf s) (i .queue) (me .0) (toNode seen .0) (tail .0) (toNode reported .0) (ap (λ a. a .role) is) (alone _ is)
 
       -- it changes the queue again, or only looks, as the reported word says
-      queue-on : (k : Bool) → Q.Inv (restored g (me .0) (g .taken (me .0) .beg)) (Q.moved (queueOf s) (me .0) (setTl (linksOf (s .nd)) (toNode seen .0) (tail .0)) (waitOf (s .th) (s .nd)) (walk (lookKind k) (toNode reported .0) (toNode reported .0)))
+      queue-on : (k : Bool)
+          → Q.Inv (restored g (me .0) (g .taken (me .0) .beg)) (Q.moved (queueOf s) (me .0) (setTl (linksOf (s .nd)) (toNode seen .0) (tail .0)) (waitOf (s .th) (s .nd)) (walk (lookKind k) (toNode reported .0) (toNode reported .0)))
       queue-on false = back
       queue-on true = rw Q.moved-twice at (Walking.ease (restored g (me .0) (g .taken (me .0) .beg)) (Q.moved (queueOf s) (me .0) (setTl (linksOf (s .nd)) (toNode seen .0) (tail .0)) (waitOf (s .th) (s .nd)) (walk changes (toNode reported .0) (toNode reported .0))) back (me .0) (toNode reported .0) (toNode reported .0) (upd-same (roleOf (s .th)) (me .0) (walk changes (toNode reported .0) (toNode reported .0))))

@@ -135,7 +135,9 @@ module _ (n : ℕ) (few : n ≤ threadLimit) (s : Lock) (g : Ghost) (i : Inv n s
   own p = subst (λ k. Goes n s g me mark fails k (λ v. advanceOf v p)) (sym (add-one (me .0)))
 
   -- the rule of every place keeps the invariant, where the step is not halted and a walk's tail has its mark
-  pub kept-at : (p : Place) → s .th (me .0) .place ≡ p → (token : Bool) → haltedOf (accessOf me p .kind) token fails ≡ Fine → ((k : Walk) (seen : Word) (tail : NodeNumber) → p ≡ WalkHead k seen tail → mark ≡ Missing → ⊥) → Goes n s g me mark fails (touchedOf (accessOf me p) me .0) (λ v. advanceOf v p)
+  pub kept-at : (p : Place) → s .th (me .0) .place ≡ p → (token : Bool) → haltedOf (accessOf me p .kind) token fails ≡ Fine
+      → ((k : Walk) (seen : Word) (tail : NodeNumber) → p ≡ WalkHead k seen tail → mark ≡ Missing → ⊥)
+      → Goes n s g me mark fails (touchedOf (accessOf me p) me .0) (λ v. advanceOf v p)
   unfolding accessOf advanceOf
   kept-at Idle here token fine marked = absurd (let bad : _≡_ {A = ℕ} 0 1 = cc in omega arith)
   kept-at (TryReadLoad blocking) here token fine marked = kept-try-read-load n s g i me tin mark fails _ blocking here

@@ -92,7 +92,9 @@ module _ (n : ℕ) (s : Lock) (g : Ghost) (i : Inv n s g) (me : ThreadNumber) (t
   next p = record { place = p; token = s .th (me .0) .token; holding = releasedRead (s .th (me .0) .holding) }
 
   -- the last one leaves LOCKED to be cleared
-  subtract : (p : Place) → Off (about p) → Allowed (about p .may) (releasedRead (s .th (me .0) .holding)) → ((1 ≤ readers n s - 1) × (leaver (next p) ≡ 0)) ⊎ ((readers n s ≡ 1) × (leaver (next p) ≡ 1)) → Inv n (moved s (me .0) (s .word) (next p) nodes) g
+  subtract : (p : Place) → Off (about p) → Allowed (about p .may) (releasedRead (s .th (me .0) .holding))
+      → ((1 ≤ readers n s - 1) × (leaver (next p) ≡ 0)) ⊎ ((readers n s ≡ 1) × (leaver (next p) ≡ 1))
+      → Inv n (moved s (me .0) (s .word) (next p) nodes) g
   subtract p o a last = land n s g g (me .0) (s .word) (next p) nodes i (record {
     queue = subst (λ z. Q.Inv g z) (sym (view s (me .0) (next p) nodes (s .word) (setNx (linksOf (s .nd)) (tail .0) (less .0)) (waitOf (s .th) (s .nd)) (links-next (s .nd) (tail .0) less) waits)) (rw (o .role) (Walking.subtract g (queueOf s) (i .queue) (me .0) (toNode seen .0) (tail .0) (less .0) (ap (λ z. z .role) is) (quiet-reader n s g i (me .0) is-reader some)));
     newest = i .newest;
@@ -132,7 +134,8 @@ module _ (n : ℕ) (s : Lock) (g : Ghost) (i : Inv n s g) (me : ThreadNumber) (t
       fewer-readers : readers n (moved s (me .0) (s .word) (next p) nodes) + 1 ≡ readers n s
       fewer-readers = omega (arith, summed s (me .0) (next p) nodes n tin (λ y. readsOf (y .holding)), holds .reads)
 
-      counts : (r v l : ℕ) → r + 1 ≡ readers n s → v ≡ 0 → l ≡ leaver (next p) → ((1 ≤ readers n s - 1) × (leaver (next p) ≡ 0)) ⊎ ((readers n s ≡ 1) × (leaver (next p) ≡ 1)) → Locked r v l
+      counts : (r v l : ℕ) → r + 1 ≡ readers n s → v ≡ 0 → l ≡ leaver (next p)
+          → ((1 ≤ readers n s - 1) × (leaver (next p) ≡ 0)) ⊎ ((readers n s ≡ 1) × (leaver (next p) ≡ 1)) → Locked r v l
       counts r v l er ev el (inl z) = by-readers (omega arith) (record { reads = refl; writes = ev; leaves = omega arith })
       counts r v l er ev el (inr z) = by-leaver (record { reads = omega arith; writes = ev; leaves = omega arith })
 

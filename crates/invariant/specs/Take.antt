@@ -46,7 +46,8 @@ module _ (n : ℕ) (s : Lock) (g : Ghost) (i : Inv n s g) (t : ℕ) (tin : t < n
     pub may : Allowed (about (x .place) .may) (x .holding)
     pub needs : about (x .place) .needsQueue ≡ false
     pub needed : (u : ℕ) → u ≢ t → aboutAt s u .needsQueue ≡ true → ⊥
-    pub count : (r v l : ℕ) → r + readsOf (s .th t .holding) ≡ readers n s + readsOf (x .holding) → v + writesOf (s .th t .holding) ≡ writers n s + writesOf (x .holding) → l + leaver (s .th t) ≡ leavers n s + leaver x → Unqueued w r v l
+    pub count : (r v l : ℕ) → r + readsOf (s .th t .holding) ≡ readers n s + readsOf (x .holding)
+        → v + writesOf (s .th t .holding) ≡ writers n s + writesOf (x .holding) → l + leaver (s .th t) ≡ leavers n s + leaver x → Unqueued w r v l
     pub fits : about (x .place) .ok ≡ true
     pub unfilled : filled (about (x .place) .role) ≡ false
     pub asleep : about (x .place) .asleep ≡ false
@@ -97,7 +98,9 @@ module _ (n : ℕ) (s : Lock) (g : Ghost) (i : Inv n s g) (me : ThreadNumber) (t
   has-queue = let f : Full (ticketsOf g) (linksOf (s .nd)) (knows .h) = knows .way in is-queued n s g i (omega arith)
 
   -- thread t's holding and the leavers stay: what the word becomes is what holds already
-  take-to : s .word ≡ seen → (w : Word) → Plain w → writers n s ≡ 0 → leavers n s ≡ 0 → ((w .0 ≡ 0) × (readers n s ≡ 0)) ⊎ ((w .0 ≡ SINGLE * readers n s + LOCKED) × (1 ≤ readers n s)) → Inv n (moved s (me .0) w (placed (s .th (me .0)) (WakePrev who tail)) (s .nd)) (took g (me .0))
+  take-to : s .word ≡ seen → (w : Word) → Plain w → writers n s ≡ 0 → leavers n s ≡ 0
+      → ((w .0 ≡ 0) × (readers n s ≡ 0)) ⊎ ((w .0 ≡ SINGLE * readers n s + LOCKED) × (1 ≤ readers n s))
+      → Inv n (moved s (me .0) w (placed (s .th (me .0)) (WakePrev who tail)) (s .nd)) (took g (me .0))
   take-to same w p w0 l0 rs = take n s g i (me .0) tin w (placed (s .th (me .0)) (WakePrev who tail)) p (record {
     queue = Taking.take g (queueOf s) (i .queue) (me .0) (toNode seen .0) (tail .0) (v .ticket) (ap (λ a. a .role) is) (lonely n s g i (me .0) (rw is refl) (rw is hands-on)) (v .last) (v .node ∙ ap (λ y. toNode y .0) same);
     registered = rw is;
@@ -115,7 +118,9 @@ module _ (n : ℕ) (s : Lock) (g : Ghost) (i : Inv n s g) (me : ThreadNumber) (t
       v : Newest g (s .word)
       v = i .newest has-queue
 
-      counts : (r v l : ℕ) → r + readsOf (s .th (me .0) .holding) ≡ readers n s + readsOf (s .th (me .0) .holding) → v + writesOf (s .th (me .0) .holding) ≡ writers n s + writesOf (s .th (me .0) .holding) → l + 0 ≡ leavers n s + 0 → ((w .0 ≡ 0) × (readers n s ≡ 0)) ⊎ ((w .0 ≡ SINGLE * readers n s + LOCKED) × (1 ≤ readers n s)) → Unqueued w r v l
+      counts : (r v l : ℕ) → r + readsOf (s .th (me .0) .holding) ≡ readers n s + readsOf (s .th (me .0) .holding)
+          → v + writesOf (s .th (me .0) .holding) ≡ writers n s + writesOf (s .th (me .0) .holding) → l + 0 ≡ leavers n s + 0
+          → ((w .0 ≡ 0) × (readers n s ≡ 0)) ⊎ ((w .0 ≡ SINGLE * readers n s + LOCKED) × (1 ≤ readers n s)) → Unqueued w r v l
       counts r v l er ev el (inl z) = empty (z .0) (record { reads = omega arith; writes = omega arith; leaves = omega arith })
       counts r v l er ev el (inr z) = let e : r ≡ readers n s = omega arith in read (rw e (z .0)) (omega arith) (record { reads = refl; writes = omega arith; leaves = omega arith })
 

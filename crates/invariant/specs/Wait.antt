@@ -27,11 +27,14 @@ module _ (n : ℕ) (s : Lock) (g : Ghost) (i : Inv n s g) (me : ThreadNumber) (t
     nothing = rw told at (i .holding (me .0))
 
     -- its role is none, before and after
-    queue : (x : Thread) → about (x .place) .role ≡ none → waitOf (upd (s .th) (me .0) x) (s .nd) ≡ waitOf (s .th) (s .nd) → Q.Inv g (queueOf (moved s (me .0) (s .word) x (s .nd)))
+    queue : (x : Thread) → about (x .place) .role ≡ none → waitOf (upd (s .th) (me .0) x) (s .nd) ≡ waitOf (s .th) (s .nd)
+        → Q.Inv g (queueOf (moved s (me .0) (s .word) x (s .nd)))
     queue x none-after same = subst (λ z. Q.Inv g z) (sym (view s (me .0) x (s .nd) (s .word) (linksOf (s .nd)) (waitOf (s .th) (s .nd)) refl same)) (rw none-after (Q.turn g (queueOf s) (i .queue) (me .0) none (rw told at (i .queue .know (me .0))) (never refl)))
 
     -- it waits on, with a token or without
-    waits-on : (q : Place) (token asleep′ : Bool) → about q ≡ waiting asleep′ → (asleep′ ≡ true → s .nd (suc (me .0)) .completed ≡ true → token ≡ true) → Inv n (moved s (me .0) (s .word) (record { place = q; token = token; holding = s .th (me .0) .holding }) (s .nd)) g
+    waits-on : (q : Place) (token asleep′ : Bool) → about q ≡ waiting asleep′
+        → (asleep′ ≡ true → s .nd (suc (me .0)) .completed ≡ true → token ≡ true)
+        → Inv n (moved s (me .0) (s .word) (record { place = q; token = token; holding = s .th (me .0) .holding }) (s .nd)) g
     waits-on q token asleep′ on called = stay n s g (me .0) (record { place = q; token = token; holding = s .th (me .0) .holding }) (s .nd) i (record {
       queue = queue (record { place = q; token = token; holding = s .th (me .0) .holding }) (rw on) (waits-as s (me .0) (record { place = q; token = token; holding = s .th (me .0) .holding }) (s .nd) (waitOf (s .th) (s .nd)) refl (rw (on, told)) (λ u ne. refl));
       inside = tin;

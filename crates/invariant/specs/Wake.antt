@@ -114,11 +114,13 @@ module _ (n : ℕ) (s : Lock) (g : Ghost) (i : Inv n s g) (t : ℕ) (tin : t < n
         off true = refl
         off false = refl
 
-        at : (u : ℕ) → (suc u ≡ current .0) ⊎ (suc u ≢ current .0) → pick (aboutAt s u .registered) (not (nodes (suc u) .completed)) false ≡ upd (waitOf (s .th) (s .nd)) (current .0) false (suc u)
+        at : (u : ℕ) → (suc u ≡ current .0) ⊎ (suc u ≢ current .0)
+            → pick (aboutAt s u .registered) (not (nodes (suc u) .completed)) false ≡ upd (waitOf (s .th) (s .nd)) (current .0) false (suc u)
         at u (inl e) = rw (done (suc u) e) (off (aboutAt s u .registered) ∙ sym (ap (upd (waitOf (s .th) (s .nd)) (current .0) false) e ∙ upd-same (waitOf (s .th) (s .nd)) (current .0) false))
         at u (inr ne) = rw (same (suc u) ne) (sym (upd-other (waitOf (s .th) (s .nd)) (current .0) false (suc u) ne))
 
-    pub complete : Q.Inv (completed g t) (Q.moved (queueOf s) t (linksOf (s .nd)) (upd (waitOf (s .th) (s .nd)) (current .0) false) (about p .role)) → Inv n (moved s t (s .word) next nodes) (completed g t)
+    pub complete : Q.Inv (completed g t) (Q.moved (queueOf s) t (linksOf (s .nd)) (upd (waitOf (s .th) (s .nd)) (current .0) false) (about p .role))
+        → Inv n (moved s t (s .word) next nodes) (completed g t)
     complete q = glide n s g (completed g t) t next nodes i (record {
       queue = subst (λ z. Q.Inv (completed g t) z) (sym (view s t next nodes (s .word) (linksOf (s .nd)) (upd (waitOf (s .th) (s .nd)) (current .0) false) (links-completed (s .nd) (current .0)) waits)) q;
       newest = λ e. let y : Newest g (s .word) = i .newest e in record { ticket = y .ticket; last = y .last; some = y .some; node = y .node };
@@ -180,10 +182,12 @@ owner-of k u e l =
     let less : k .0 - 1 ≡ u = omega arith in
     sym (pick-no (ltb (k .0) 1) _ Nobody _ (le-ltb (k .0) 1 (omega arith)) (pick-no (ltb 256 (k .0)) _ Nobody _ (le-ltb 256 (k .0) (omega arith)) (ap (λ z. Somebody (thread z)) (sym less))))
 
-woken-before : (th : ℕ → Thread) (t u : ℕ) (p : Place) → upd (upd th u (tokenedOf (th u))) t (placed (upd th u (tokenedOf (th u)) t) p) ≡ upd (upd th t (placed (th t) p)) u (tokenedOf (upd th t (placed (th t) p) u))
+woken-before : (th : ℕ → Thread) (t u : ℕ) (p : Place)
+    → upd (upd th u (tokenedOf (th u))) t (placed (upd th u (tokenedOf (th u)) t) p) ≡ upd (upd th t (placed (th t) p)) u (tokenedOf (upd th t (placed (th t) p) u))
 woken-before th t u p = fun-ext λ j. at j (eq? j t) (eq? j u)
   where
-    at : (j : ℕ) → (j ≡ t) ⊎ (j ≢ t) → (j ≡ u) ⊎ (j ≢ u) → upd (upd th u (tokenedOf (th u))) t (placed (upd th u (tokenedOf (th u)) t) p) j ≡ upd (upd th t (placed (th t) p)) u (tokenedOf (upd th t (placed (th t) p) u)) j
+    at : (j : ℕ) → (j ≡ t) ⊎ (j ≢ t) → (j ≡ u) ⊎ (j ≢ u)
+        → upd (upd th u (tokenedOf (th u))) t (placed (upd th u (tokenedOf (th u)) t) p) j ≡ upd (upd th t (placed (th t) p)) u (tokenedOf (upd th t (placed (th t) p) u)) j
     at j (inl e) (inl f) =
         let same : u ≡ t = sym f ∙ e in
         rw (e, same, upd-same (upd th t (tokenedOf (th t))) t (placed (upd th t (tokenedOf (th t)) t) p), upd-same th t (tokenedOf (th t)), upd-same (upd th t (placed (th t) p)) t (tokenedOf (upd th t (placed (th t) p) t)), upd-same th t (placed (th t) p))
@@ -227,10 +231,12 @@ module _ (n : ℕ) (few : n ≤ threadLimit) (s : Lock) (g : Ghost) (i : Inv n s
         let same : u ≡ whom .thread = omega (arith, whom .node) in
         ap (λ j. called-first .th j .token) same ∙ ap (λ y. y .token) (upd-same (s .th) (whom .thread) (tokenedOf (s .th (whom .thread))))
 
-    woken : (p : Place) → upd (called-first .th) (me .0) (placed (called-first .th (me .0)) p) ≡ wokenIn (upd (s .th) (me .0) (placed (s .th (me .0)) p)) (ownerOf current)
+    woken : (p : Place)
+        → upd (called-first .th) (me .0) (placed (called-first .th (me .0)) p) ≡ wokenIn (upd (s .th) (me .0) (placed (s .th (me .0)) p)) (ownerOf current)
     woken p = woken-before (s .th) (me .0) (whom .thread) p ∙ sym (ap (wokenIn (upd (s .th) (me .0) (placed (s .th (me .0)) p))) (owner-of current (whom .thread) (whom .node) (omega (arith, within))) ∙ sym (pick-yes (ltb (whom .thread) threadLimit) _ _ _ (lt-ltb (whom .thread) threadLimit (omega (arith, within))) refl))
 
-    wake-to : (p : Place) → Goes-on (about p) (s .th (me .0) .holding) (waiter who) → Q.Inv (completed g (me .0)) (Q.moved (queueOf called-first) (me .0) (linksOf (s .nd)) (upd (waitOf (called-first .th) (s .nd)) (current .0) false) (about p .role)) →
+    wake-to : (p : Place) → Goes-on (about p) (s .th (me .0) .holding) (waiter who)
+        → Q.Inv (completed g (me .0)) (Q.moved (queueOf called-first) (me .0) (linksOf (s .nd)) (upd (waitOf (called-first .th) (s .nd)) (current .0) false) (about p .role)) →
         Inv n (record { word = s .word; th = wokenIn (upd (s .th) (me .0) (placed (s .th (me .0)) p)) (ownerOf current); nd = upd (s .nd) (current .0) (withCompleted (s .nd (current .0))) }) (completed g (me .0))
     wake-to p to q = subst (λ th. Inv n (record { word = s .word; th = th; nd = upd (s .nd) (current .0) (withCompleted (s .nd (current .0))) }) (completed g (me .0))) (woken p) (complete n called-first g with-token (me .0) tin who current prev (same-place ∙ here) has-token p (rw same-holding to) q)
 
@@ -255,9 +261,11 @@ module _ (n : ℕ) (few : n ≤ threadLimit) (s : Lock) (g : Ghost) (i : Inv n s
         went-last (Waiter writer) = completes-waits me g _ who writer current prev here _ done-with
         went-last Leaver = completes-ends me g _ who current prev here _ done-with
 
-        finished : prev .0 ≡ 0 → Q.Inv (completed g (me .0)) (Q.moved (queueOf called-first) (me .0) (linksOf (s .nd)) (upd (waitOf (called-first .th) (s .nd)) (current .0) false) none)
+        finished : prev .0 ≡ 0
+            → Q.Inv (completed g (me .0)) (Q.moved (queueOf called-first) (me .0) (linksOf (s .nd)) (upd (waitOf (called-first .th) (s .nd)) (current .0) false) none)
         finished z = Taking.complete-last g (queueOf called-first) (with-token .queue) (me .0) (current .0) (role-is ∙ ap (store (current .0)) z)
 
-        last : (o : Who) → o ≡ who → prev .0 ≡ 0 → Inv n (record { word = s .word; th = wokenIn (upd (s .th) (me .0) (placed (s .th (me .0)) (afterQueue o .place))) (ownerOf current); nd = upd (s .nd) (current .0) (withCompleted (s .nd (current .0))) }) (completed g (me .0))
+        last : (o : Who) → o ≡ who → prev .0 ≡ 0
+            → Inv n (record { word = s .word; th = wokenIn (upd (s .th) (me .0) (placed (s .th (me .0)) (afterQueue o .place))) (ownerOf current); nd = upd (s .nd) (current .0) (withCompleted (s .nd (current .0))) }) (completed g (me .0))
         last (Waiter writer) o z = wake-to (CompletedLoad writer) (record { owner = refl; reader = refl; unfilled = refl; asleep = refl; leaves = refl; needsQueue = refl; ok = refl; may = rw (← o) at may; registered = ap waiter o }) (finished z)
         last Leaver o z = wake-to Idle (record { owner = refl; reader = refl; unfilled = refl; asleep = refl; leaves = refl; needsQueue = refl; ok = refl; may = tt; registered = ap waiter o }) (finished z)

@@ -47,14 +47,16 @@ module _ (n : ℕ) (s : Lock) (g : Ghost) (i : Inv n s g) (me : ThreadNumber) (t
     calm : Real n s → about p .owner ≡ true → handsOff (about p .seen) ≡ true
     calm x e = ap handsOff (ap (λ a. a .seen) on ∙ sym (ap (λ a. a .seen) is)) ∙ i .calm x (me .0) (sym (alike .owner) ∙ e)
 
-  pub kept-walk-tail : (k : Walk) (seen : Word) (current : NodeNumber) → s .th (me .0) .place ≡ WalkTail k seen current → Goes n s g me mark fails (current .0) (λ v. walkTailOf v k seen current)
+  pub kept-walk-tail : (k : Walk) (seen : Word) (current : NodeNumber) → s .th (me .0) .place ≡ WalkTail k seen current
+      → Goes n s g me mark fails (current .0) (λ v. walkTailOf v k seen current)
   kept-walk-tail k seen current here = pick-both (Kept n s g me (current .0)) (isNone (s .nd (current .0) .tail)) _ _
       (λ e. kept-still n s g me (current .0) _ _ g (stood me g _ (WalkTail k seen current) here refl _ refl) (stroll n s g i (me .0) tin (WalkNext k seen current) (alike k seen _ _ (ap about here) (WalkNext k seen current) refl refl) (s .nd) (linksOf (s .nd)) (unlinked (s .nd)) (calm k seen _ _ (ap about here) (WalkNext k seen current) refl refl)
       (Walking.load-none g (queueOf s) (i .queue) (me .0) (kindOf k seen) (toNode seen .0) (current .0) (ap (λ p. about p .role) here) (eqb-true (s .nd (current .0) .tail .0) 0 e))))
       (λ e. kept-still n s g me (current .0) _ _ g (stood me g _ (WalkTail k seen current) here refl _ refl) (stroll n s g i (me .0) tin (WalkHead k seen (s .nd (current .0) .tail)) (alike k seen _ _ (ap about here) (WalkHead k seen (s .nd (current .0) .tail)) refl refl) (s .nd) (linksOf (s .nd)) (unlinked (s .nd)) (calm k seen _ _ (ap about here) (WalkHead k seen (s .nd (current .0) .tail)) refl refl)
       (Walking.load-tail g (queueOf s) (i .queue) (me .0) (kindOf k seen) (toNode seen .0) (current .0) (ap (λ p. about p .role) here) (eqb-false (s .nd (current .0) .tail .0) 0 e))))
 
-  pub kept-walk-next : (k : Walk) (seen : Word) (current : NodeNumber) → s .th (me .0) .place ≡ WalkNext k seen current → Goes n s g me mark fails (current .0) (λ v. walkNextOf v k seen current)
+  pub kept-walk-next : (k : Walk) (seen : Word) (current : NodeNumber) → s .th (me .0) .place ≡ WalkNext k seen current
+      → Goes n s g me mark fails (current .0) (λ v. walkNextOf v k seen current)
   kept-walk-next k seen current here = kept-still n s g me (current .0) _ _ g (stood me g _ (WalkNext k seen current) here refl _ refl) (stroll n s g i (me .0) tin (WalkPrev k seen current (toNode (s .nd (current .0) .next))) (alike k seen _ _ (ap about here) (WalkPrev k seen current (toNode (s .nd (current .0) .next))) refl refl) (s .nd) (linksOf (s .nd)) (unlinked (s .nd)) (calm k seen _ _ (ap about here) (WalkPrev k seen current (toNode (s .nd (current .0) .next))) refl refl)
       (Walking.load-next g (queueOf s) (i .queue) (me .0) (kindOf k seen) (toNode seen .0) (current .0) (ap (λ p. about p .role) here)))
 
@@ -66,7 +68,8 @@ module _ (n : ℕ) (s : Lock) (g : Ghost) (i : Inv n s g) (me : ThreadNumber) (t
       by (inl o) = quiet-owner n s g i (me .0) o
       by (inr r) = quiet-reader n s g i (me .0) r (on-queue n s g i (me .0) e)
 
-  pub kept-walk-prev : (k : Walk) (seen : Word) (current next : NodeNumber) → s .th (me .0) .place ≡ WalkPrev k seen current next → Goes n s g me mark fails (next .0) (λ v. walkPrevOf v k seen current next)
+  pub kept-walk-prev : (k : Walk) (seen : Word) (current next : NodeNumber) → s .th (me .0) .place ≡ WalkPrev k seen current next
+      → Goes n s g me mark fails (next .0) (λ v. walkPrevOf v k seen current next)
   kept-walk-prev k seen current next here = (
     g,
     stroll n s g i (me .0) tin (WalkTail k seen next) (alike k seen _ _ (ap about here) (WalkTail k seen next) refl refl) (upd (s .nd) (next .0) (withPrev (s .nd (next .0)) current)) _ (linked-prev (s .nd) (next .0) current) (calm k seen _ _ (ap about here) (WalkTail k seen next) refl refl)
@@ -82,7 +85,9 @@ module _ (n : ℕ) (s : Lock) (g : Ghost) (i : Inv n s g) (me : ThreadNumber) (t
 
     module _ (who : Who) (here : s .th (me .0) .place ≡ WalkHead (Queue who) seen tail) where
       -- the owner goes on with the word that it saw
-      owns : (p : Place) (r : Role) (ok : Bool) → about p ≡ owning who seen r ok → filled r ≡ false → ok ≡ true → Q.Inv g (Q.moved (queueOf s) (me .0) (setTl (linksOf (s .nd)) (toNode seen .0) (tail .0)) (waitOf (s .th) (s .nd)) r) → Inv n (moved s (me .0) (s .word) (placed (s .th (me .0)) p) nodes) g
+      owns : (p : Place) (r : Role) (ok : Bool) → about p ≡ owning who seen r ok → filled r ≡ false → ok ≡ true
+          → Q.Inv g (Q.moved (queueOf s) (me .0) (setTl (linksOf (s .nd)) (toNode seen .0) (tail .0)) (waitOf (s .th) (s .nd)) r)
+          → Inv n (moved s (me .0) (s .word) (placed (s .th (me .0)) p) nodes) g
       owns p r ok on f e q =
           let is : aboutAt s (me .0) ≡ owning who seen (head (lookKind (handsOff seen)) (toNode seen .0) (tail .0)) true = ap about here in
           stroll n s g i (me .0) tin p (rw (is, on) (alike-own who seen seen _ r true ok f e)) nodes _ (linked-tail (s .nd) (toNode seen .0) tail)
@@ -99,10 +104,12 @@ module _ (n : ℕ) (s : Lock) (g : Ghost) (i : Inv n s g) (me : ThreadNumber) (t
           (Walking.store-tail g (queueOf s) (i .queue) (me .0) looks refl (toNode seen .0) (tail .0) (role-is true e)) (me .0) looks refl (toNode seen .0) (tail .0) (upd-same (roleOf (s .th)) (me .0) (head looks (toNode seen .0) (tail .0)))))
 
       -- else it takes something off
-      changing : handsOff seen ≡ false → (p : Place) (ok : Bool) → about p ≡ owning who seen (head changes (toNode seen .0) (tail .0)) ok → ok ≡ true → Inv n (moved s (me .0) (s .word) (placed (s .th (me .0)) p) nodes) g
+      changing : handsOff seen ≡ false → (p : Place) (ok : Bool) → about p ≡ owning who seen (head changes (toNode seen .0) (tail .0)) ok → ok ≡ true
+          → Inv n (moved s (me .0) (s .word) (placed (s .th (me .0)) p) nodes) g
       changing e p ok on f = owns p (head changes (toNode seen .0) (tail .0)) ok on refl f (Walking.store-tail g (queueOf s) (i .queue) (me .0) changes refl (toNode seen .0) (tail .0) (role-is false e))
 
-      marked : handsOff seen ≡ false → (downgraded seen ≡ false → unheld seen ≡ true) → (m : Mark) → (m ≡ Missing → ⊥) → Kept n s g me (toNode seen .0) (markedBy (lookAt s me (toNode seen .0) mark fails) (withTail (s .nd (toNode seen .0)) tail) who seen tail m)
+      marked : handsOff seen ≡ false → (downgraded seen ≡ false → unheld seen ≡ true) → (m : Mark) → (m ≡ Missing → ⊥)
+          → Kept n s g me (toNode seen .0) (markedBy (lookAt s me (toNode seen .0) mark fails) (withTail (s .nd (toNode seen .0)) tail) who seen tail m)
       marked e free Missing there = absurd (there refl)
       marked e free Reader there = (g, changing e (TakeCas who seen tail) (not (handsOff seen)) refl (rw e), stood me g _ (WalkHead (Queue who) seen tail) here refl _ refl)
       marked e free Writer there = pick-both (Kept n s g me (toNode seen .0)) (downgraded seen) _ _
@@ -137,7 +144,8 @@ module _ (n : ℕ) (s : Lock) (g : Ghost) (i : Inv n s g) (me : ThreadNumber) (t
         turned : Alike (walking Downgrade seen (head alone (toNode seen .0) (tail .0))) (about (WakePrev Leaver tail))
         turned = record { unfilled = refl; owner = refl; reader = refl; registered = refl; asleep = refl; may = λ h a. a .writes; ok = refl; leaves = refl; needsQueue = refl; contends = refl }
 
-  pub kept-walk-head : (k : Walk) (seen : Word) (tail : NodeNumber) → s .th (me .0) .place ≡ WalkHead k seen tail → (mark ≡ Missing → ⊥) → Goes n s g me mark fails (toNode seen .0) (λ v. walkHeadOf v k seen tail)
+  pub kept-walk-head : (k : Walk) (seen : Word) (tail : NodeNumber) → s .th (me .0) .place ≡ WalkHead k seen tail → (mark ≡ Missing → ⊥)
+      → Goes n s g me mark fails (toNode seen .0) (λ v. walkHeadOf v k seen tail)
   kept-walk-head (Queue who) seen tail here there = kept-walk-head-queue seen tail who here there
   kept-walk-head ReadUnlock seen tail here there = kept-walk-head-reader seen tail here
   kept-walk-head Downgrade seen tail here there = kept-walk-head-downgrade seen tail here

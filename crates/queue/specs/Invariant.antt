@@ -86,7 +86,9 @@ pub record Spared (g g′ : Ghost) (s : St) (l′ : Links) (wait′ : ℕ → Bo
   pub free : filled (s .role u) ≡ true → wait′ (suc u) ≡ false
 
 module _ (g : Ghost) (s : St) (v : Inv g s) (t : ℕ) where
-  pub step : (g′ : Ghost) (l′ : Links) (wait′ : ℕ → Bool) (r : Role) → Parts g′ wait′ → Queue (queueOf g′) l′ → Know (queueOf g′) (takenOf g′ t) l′ t r → (filled r ≡ true → wait′ (suc t) ≡ false) → ((u : ℕ) → u ≢ t → Spared g g′ s l′ wait′ u) → Inv g′ (moved s t l′ wait′ r)
+  pub step : (g′ : Ghost) (l′ : Links) (wait′ : ℕ → Bool) (r : Role) → Parts g′ wait′ → Queue (queueOf g′) l′
+      → Know (queueOf g′) (takenOf g′ t) l′ t r → (filled r ≡ true → wait′ (suc t) ≡ false) → ((u : ℕ) → u ≢ t → Spared g g′ s l′ wait′ u)
+      → Inv g′ (moved s t l′ wait′ r)
   step g′ l′ wait′ r ps q k f others = record {
     parts = ps;
     queue = q;
@@ -158,7 +160,10 @@ module _ (g : Ghost) (s : St) (v : Inv g s) (t : ℕ) where
     pub node-off : (u : ℕ) → filled (s .role u) ≡ true → Untouched (s .links) l′ (suc u)
     node-off u f = only (suc u) (λ e. waiting g (s .wait) (v .parts) j o (suc u) hj (v .free u f) (sym e))
 
-    pub spared-on : (g′ : Ghost) → g′ .log ≡ g .log → (u : ℕ) → u ≢ t → suc u ≢ o → g′ .taken u ≡ g .taken u → (onQueue (s .role u) ≡ true → Still (queueOf g) (queueOf g′) (s .links) l′) → (changing (s .role u) ≡ true → KeepsClean (queueOf g) (queueOf g′) (s .links) l′) → (changing (s .role u) ≡ true → l′ .nx (g .log (g .lo)) ≡ s .links .nx (g .log (g .lo))) → Spared g g′ s l′ (s .wait) u
+    pub spared-on : (g′ : Ghost) → g′ .log ≡ g .log → (u : ℕ) → u ≢ t → suc u ≢ o → g′ .taken u ≡ g .taken u
+        → (onQueue (s .role u) ≡ true → Still (queueOf g) (queueOf g′) (s .links) l′)
+        → (changing (s .role u) ≡ true → KeepsClean (queueOf g) (queueOf g′) (s .links) l′)
+        → (changing (s .role u) ≡ true → l′ .nx (g .log (g .lo)) ≡ s .links .nx (g .log (g .lo))) → Spared g g′ s l′ (s .wait) u
     spared-on g′ lg u ne other et st cl be = record { taken = et; frame = record { taken = rw lg (taken-off u other); node = node-off u; still = st; clean = cl; below = λ c _. be c }; free = v .free u }
 
     -- t stores in what it has taken itself

@@ -270,7 +270,8 @@ module _ (q : Part) (l : Links) (d : Live q) (v : Queue q l) where
   abbrev pub more : ℕ → Part
   more b = record { log = q .log; lo = b; hi = q .hi; fl = q .fl }
 
-  pub restore : (b : ℕ) → suc b ≡ q .lo → q .lo < q .hi → linkOf (l .nx (q .log (q .lo))) ≡ q .log b → l .pv (q .log b) ≡ q .log (q .lo) → Clean q l (q .fl) → Queue (more b) (setTl l (q .log (q .fl)) (q .log b))
+  pub restore : (b : ℕ) → suc b ≡ q .lo → q .lo < q .hi → linkOf (l .nx (q .log (q .lo))) ≡ q .log b → l .pv (q .log b) ≡ q .log (q .lo)
+      → Clean q l (q .fl) → Queue (more b) (setTl l (q .log (q .fl)) (q .log b))
   restore b e s ne pe cl = record {
     base = omega (arith, v .base);
     high = v .high;
@@ -292,7 +293,8 @@ module _ (q : Part) (l : Links) (d : Live q) (v : Queue q l) where
       back′ j x y (inl z) = rw (z, e) pe
       back′ j x y (inr z) = v .floor s .1 j (omega arith) y
 
-      valid′ : (i : ℕ) → q .fl ≤ i → i < q .hi → (i ≡ q .fl) ⊎ (i ≢ q .fl) → (upd (l .tl) (q .log (q .fl)) (q .log b) (q .log i) ≡ 0) ⊎ ((upd (l .tl) (q .log (q .fl)) (q .log b) (q .log i) ≡ q .log b) × Back (more b) l b i)
+      valid′ : (i : ℕ) → q .fl ≤ i → i < q .hi → (i ≡ q .fl) ⊎ (i ≢ q .fl)
+          → (upd (l .tl) (q .log (q .fl)) (q .log b) (q .log i) ≡ 0) ⊎ ((upd (l .tl) (q .log (q .fl)) (q .log b) (q .log i) ≡ q .log b) × Back (more b) l b i)
       valid′ i x y (inl z) = inr (rw z (upd-same (l .tl) (q .log (q .fl)) (q .log b)), λ j c k. back′ j c (omega arith) (eq? j b))
       valid′ i x y (inr z) = inl (rw (upd-other (l .tl) (q .log (q .fl)) (q .log b) (q .log i) (d .apart i (q .fl) (omega (arith, v .base)) y (v .base) (v .span s) z)) (bare (q .fl) i (omega arith) (omega arith) y cl))
 
@@ -307,7 +309,8 @@ module _ (q : Part) (l : Links) (v : Queue q l) where
   grown = record { log = q .log; lo = q .lo; hi = suc (q .hi); fl = q .fl }
 
   -- on a queue
-  pub grow : (p : ℕ) → q .hi ≡ suc p → q .lo < q .hi → linkOf (l .nx (q .log (q .hi))) ≡ q .log p → l .pv (q .log (q .hi)) ≡ 0 → l .tl (q .log (q .hi)) ≡ 0 → Queue grown l
+  pub grow : (p : ℕ) → q .hi ≡ suc p → q .lo < q .hi → linkOf (l .nx (q .log (q .hi))) ≡ q .log p → l .pv (q .log (q .hi)) ≡ 0
+      → l .tl (q .log (q .hi)) ≡ 0 → Queue grown l
   grow p at s ne pe te = record {
     base = v .base;
     high = omega (arith, v .high);

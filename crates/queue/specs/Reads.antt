@@ -67,7 +67,8 @@ module _ (g : Ghost) (s : St) (v : Inv g s) (t : ℕ) where
   named (wake cu) w = waits-on alone (g .taken t .beg) cu (omega arith) (w .some) (w .isc)
   named (store cu prev) w = (waits-on alone (g .taken t .beg) cu (omega arith) (w .some) (w .isc), go (w .rest))
     where
-      go : ((suc (g .taken t .beg) ≡ g .taken t .end) × (prev ≡ 0)) ⊎ ((suc (g .taken t .beg) < g .taken t .end) × (g .log (suc (g .taken t .beg)) ≡ prev)) → (prev ≡ 0) ⊎ Waits prev
+      go : ((suc (g .taken t .beg) ≡ g .taken t .end) × (prev ≡ 0)) ⊎ ((suc (g .taken t .beg) < g .taken t .end) × (g .log (suc (g .taken t .beg)) ≡ prev))
+          → (prev ≡ 0) ⊎ Waits prev
       go (inl z) = inl (z .1)
       go (inr z) = inr (waits-on alone (suc (g .taken t .beg)) prev (omega arith) (z .0) (z .1))
 

@@ -49,7 +49,8 @@ module _ (g : Ghost) (s : St) (v : Inv g s) (t : ℕ) where
       off = agree-off g s v t (queueOf g) l′ (suc t) only (λ i a b. waiting g (s .wait) (v .parts) i 0 (suc t) (v .parts .queued i a b) f)
 
   -- the node gets ticket hi; with its queue, whether it is the first or not, the rest is the same
-  join : (first : Bool) (n : ℕ) → s .role t ≡ ready first n → Queue (queueOf (registered g (suc t))) (s .links) → Inv (registered g (suc t)) (moved s t (s .links) (upd (s .wait) (suc t) true) none)
+  join : (first : Bool) (n : ℕ) → s .role t ≡ ready first n → Queue (queueOf (registered g (suc t))) (s .links)
+      → Inv (registered g (suc t)) (moved s t (s .links) (upd (s .wait) (suc t) true) none)
   join first n e q =
       step g s v t g′ (s .links) (upd (s .wait) (suc t) true) none
       (parts-register g (s .wait) (v .parts) (suc t) (λ z. omega arith) (v .free t (rw e refl)))
@@ -89,7 +90,8 @@ module _ (g : Ghost) (s : St) (v : Inv g s) (t : ℕ) where
       let w : ReadyAt (takenOf g t) (s .links) (suc t) true n = told g s v t (ready true n) e in
       join true n e (Queue.first (relog (queueOf g) (upd (g .log) (g .hi) (suc t))) (s .links) relogged z (rw (upd-same (g .log) (g .hi) (suc t)) (w .pv)) (rw (upd-same (g .log) (g .hi) (suc t)) (w .tl)))
 
-  pub register-next : (n p : ℕ) → s .role t ≡ ready false n → suc p ≡ g .hi → g .lo ≤ p → g .log p ≡ linkOf n → Inv (registered g (suc t)) (moved s t (s .links) (upd (s .wait) (suc t) true) none)
+  pub register-next : (n p : ℕ) → s .role t ≡ ready false n → suc p ≡ g .hi → g .lo ≤ p → g .log p ≡ linkOf n
+      → Inv (registered g (suc t)) (moved s t (s .links) (upd (s .wait) (suc t) true) none)
   register-next n p e at some is =
       let w : ReadyAt (takenOf g t) (s .links) (suc t) false n = told g s v t (ready false n) e in
       join false n e (Queue.grow (relog (queueOf g) (upd (g .log) (g .hi) (suc t))) (s .links) relogged p (sym at) (omega arith)

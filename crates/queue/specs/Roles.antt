@@ -368,7 +368,8 @@ module _ (q q′ p : Part) (log′ : ℕ → ℕ) (l l′ : Links) (mine : Agree
   store-frame : (cu prev : ℕ) → StoreAt p l cu prev → StoreAt (relog p log′) l′ cu prev
   store-frame cu prev w = record { some = w .some; isc = mine .log (p .lo) (omega arith) (w .some) ∙ w .isc; rest = go (w .rest); mine = mine-agree p log′ l l′ mine (suc (p .lo)) (omega arith) (w .mine) }
     where
-      go : ((suc (p .lo) ≡ p .hi) × (prev ≡ 0)) ⊎ ((suc (p .lo) < p .hi) × (p .log (suc (p .lo)) ≡ prev)) → ((suc (p .lo) ≡ p .hi) × (prev ≡ 0)) ⊎ ((suc (p .lo) < p .hi) × (log′ (suc (p .lo)) ≡ prev))
+      go : ((suc (p .lo) ≡ p .hi) × (prev ≡ 0)) ⊎ ((suc (p .lo) < p .hi) × (p .log (suc (p .lo)) ≡ prev))
+          → ((suc (p .lo) ≡ p .hi) × (prev ≡ 0)) ⊎ ((suc (p .lo) < p .hi) × (log′ (suc (p .lo)) ≡ prev))
       go (inl z) = inl z
       go (inr z) = inr (z .0, mine .log (suc (p .lo)) (omega arith) (z .0) ∙ z .1)
 

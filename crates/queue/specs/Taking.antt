@@ -47,7 +47,8 @@ module _ (g : Ghost) (s : St) (v : Inv g s) (t : ℕ) where
       w = told g s v t (aside hd tail) e
 
   -- the owner stores prev in its head; tk hd is the head's ticket
-  pub set-aside : (hd tail prev : ℕ) → s .role t ≡ split hd tail prev → Lonely s t → Inv (asided g t (g .tk hd)) (moved s t (setTl (s .links) hd prev) (s .wait) (aside hd tail))
+  pub set-aside : (hd tail prev : ℕ) → s .role t ≡ split hd tail prev → Lonely s t
+      → Inv (asided g t (g .tk hd)) (moved s t (setTl (s .links) hd prev) (s .wait) (aside hd tail))
   set-aside hd tail prev e lone =
       subst (λ z. Inv (asided g t z) (moved s t (setTl (s .links) hd prev) (s .wait) (aside hd tail))) (sym (ap (g .tk) (sym (w .it .ish)) ∙ hj .tk))
       (step g s v t (asided g t h) (setTl (s .links) hd prev) (s .wait) (aside hd tail)
@@ -83,7 +84,8 @@ module _ (g : Ghost) (s : St) (v : Inv g s) (t : ℕ) where
       }
 
   -- the old head's tail is restored, and the walk goes on from the reported node
-  pub restore : (hd tail rp : ℕ) → s .role t ≡ undo hd tail rp → Lonely s t → Inv (restored g t (g .taken t .beg)) (moved s t (setTl (s .links) hd tail) (s .wait) (walk changes rp rp))
+  pub restore : (hd tail rp : ℕ) → s .role t ≡ undo hd tail rp → Lonely s t
+      → Inv (restored g t (g .taken t .beg)) (moved s t (setTl (s .links) hd tail) (s .wait) (walk changes rp rp))
   restore hd tail rp e lone =
       step g s v t (restored g t b) (setTl (s .links) hd tail) (s .wait) (walk changes rp rp)
       (parts-restore g (s .wait) (v .parts) t b (a .one) refl (a .end))
@@ -150,7 +152,8 @@ module _ (g : Ghost) (s : St) (v : Inv g s) (t : ℕ) where
       it = record { some = omega (arith, f .base, f .low, f .top); isc = w .ist; mine = record { back = λ j a b. f .back j a (omega (arith, top)); newest = λ i z a. v .queue .newest i z a } }
 
   -- a downgrade takes all, newest first, and walks it alone
-  pub take-alone : (hd p : ℕ) → s .role t ≡ none → Lonely s t → suc p ≡ g .hi → g .lo ≤ p → g .log p ≡ hd → Inv (took g t) (moved s t (s .links) (s .wait) (walk alone hd hd))
+  pub take-alone : (hd p : ℕ) → s .role t ≡ none → Lonely s t → suc p ≡ g .hi → g .lo ≤ p → g .log p ≡ hd
+      → Inv (took g t) (moved s t (s .links) (s .wait) (walk alone hd hd))
   take-alone hd p e lone at some is =
       step g s v t (took g t) (s .links) (s .wait) (walk alone hd hd) (parts-take g (s .wait) (v .parts) t (told g s v t none e)) (Queue.empty-queue (g .log) (g .hi) (s .links)) (rw (upd-same (g .taken) t (whole g)) it) (λ x. absurd (false≢true x)) (spared-take lone)
     where
@@ -183,7 +186,8 @@ module _ (g : Ghost) (s : St) (v : Inv g s) (t : ℕ) where
       go (inl z) = inl (z, rw (← (w .isc)) (w .mine .newest a z (omega arith)))
       go (inr ne) = inr (omega (arith, w .some), rw (← (w .isc)) (sym (w .mine .back a (omega arith) (omega (arith, w .some)))))
 
-  completing : (cu : ℕ) → g .taken t .beg < g .taken t .end → g .log (g .taken t .beg) ≡ cu → (r : Role) → filled r ≡ false → Know (queueOf g) (spanPart (g .log) (rest g t)) (s .links) t r → Inv (completed g t) (moved s t (s .links) (upd (s .wait) cu false) r)
+  completing : (cu : ℕ) → g .taken t .beg < g .taken t .end → g .log (g .taken t .beg) ≡ cu → (r : Role) → filled r ≡ false
+      → Know (queueOf g) (spanPart (g .log) (rest g t)) (s .links) t r → Inv (completed g t) (moved s t (s .links) (upd (s .wait) cu false) r)
   completing cu some is r nf k =
       step g s v t (completed g t) (s .links) (upd (s .wait) cu false) r
       (rw is at (parts-complete g (s .wait) (v .parts) t some))
@@ -212,7 +216,8 @@ module _ (g : Ghost) (s : St) (v : Inv g s) (t : ℕ) where
       w : StoreAt (takenOf g t) (s .links) cu prev
       w = told g s v t (store cu prev) e
 
-      go : ((suc (g .taken t .beg) ≡ g .taken t .end) × (prev ≡ 0)) ⊎ ((suc (g .taken t .beg) < g .taken t .end) × (g .log (suc (g .taken t .beg)) ≡ prev)) → WakeAt (spanPart (g .log) (rest g t)) (s .links) prev
+      go : ((suc (g .taken t .beg) ≡ g .taken t .end) × (prev ≡ 0)) ⊎ ((suc (g .taken t .beg) < g .taken t .end) × (g .log (suc (g .taken t .beg)) ≡ prev))
+          → WakeAt (spanPart (g .log) (rest g t)) (s .links) prev
       go (inl z) = absurd (nz (z .1))
       go (inr z) = record { some = z .0; isc = z .1; mine = record { back = w .mine .back; newest = w .mine .newest } }
 
@@ -222,6 +227,7 @@ module _ (g : Ghost) (s : St) (v : Inv g s) (t : ℕ) where
       w : StoreAt (takenOf g t) (s .links) cu 0
       w = told g s v t (store cu 0) e
 
-      go : ((suc (g .taken t .beg) ≡ g .taken t .end) × (_≡_ {A = ℕ} 0 0)) ⊎ ((suc (g .taken t .beg) < g .taken t .end) × (g .log (suc (g .taken t .beg)) ≡ 0)) → g .taken t .end ≤ suc (g .taken t .beg)
+      go : ((suc (g .taken t .beg) ≡ g .taken t .end) × (_≡_ {A = ℕ} 0 0)) ⊎ ((suc (g .taken t .beg) < g .taken t .end) × (g .log (suc (g .taken t .beg)) ≡ 0))
+          → g .taken t .end ≤ suc (g .taken t .beg)
       go (inl z) = omega arith
       go (inr z) = absurd (v .parts .held t (suc (g .taken t .beg)) (omega arith) (z .0) .1 .some (z .1))

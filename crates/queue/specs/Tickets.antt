@@ -164,7 +164,8 @@ module _ (g : Ghost) (wait : ℕ → Bool) (v : Parts g wait) where
       where′ i (inl x) = (x .1, inl (x .0, omega arith))
       where′ i (inr x) = (v .held (x .0) i (x .1) (x .2) .0, inr x)
 
-      cover′ : (j : ℕ) → (j ≡ k) ⊎ (j ≢ k) → upd wait k true j ≡ true → (registered g k .log (registered g k .tk j) ≡ j) × Somewhere (registered g k) (registered g k .tk j)
+      cover′ : (j : ℕ) → (j ≡ k) ⊎ (j ≢ k) → upd wait k true j ≡ true
+          → (registered g k .log (registered g k .tk j) ≡ j) × Somewhere (registered g k) (registered g k .tk j)
       cover′ j (inl z) w = rw (z, upd-same (g .tk) k (g .hi)) (upd-same (g .log) (g .hi) k, inl (v .order, omega arith))
       cover′ j (inr ne) w =
           let c : (g .log (g .tk j) ≡ j) × Somewhere g (g .tk j) = v .cover j (rw (upd-other wait k true j ne) at w) in

@@ -14,7 +14,8 @@ use Rattle.queue.specs.Roles.{Kind, looks, changes, alone, Role, none, w
 use Rattle.queue.specs.Invariant.{St, Inv, moved, Quiet, Only, only-nx, only-pv, only-tl, step, turn, told, live, live-on, queue-on, queue-off, spared-on, spared-off}
 
 module _ (g : Ghost) (s : St) (v : Inv g s) (t : ℕ) where
-  pub begin : (k : Kind) → public k ≡ true → (hd p : ℕ) → s .role t ≡ none → suc p ≡ g .hi → g .lo ≤ p → g .log p ≡ hd → Inv g (moved s t (s .links) (s .wait) (walk k hd hd))
+  pub begin : (k : Kind) → public k ≡ true → (hd p : ℕ) → s .role t ≡ none → suc p ≡ g .hi → g .lo ≤ p → g .log p ≡ hd
+      → Inv g (moved s t (s .links) (s .wait) (walk k hd hd))
   begin k pk hd p e at some is = turn g s v t (walk k hd hd) (it k pk) (λ f. absurd (false≢true f))
     where
       w : Walk (queueOf g) (s .links) p p
@@ -83,18 +84,24 @@ module _ (g : Ghost) (s : St) (v : Inv g s) (t : ℕ) where
       it alone x w = absurd (false≢true x)
 
   -- a walker stores the prev of the node that it goes on to
-  prev-on : (k : Kind) (hd h d : ℕ) → on k (queueOf g) (takenOf g t) .log h ≡ hd → on k (queueOf g) (takenOf g t) .fl ≤ d → Walk (on k (queueOf g) (takenOf g t)) (s .links) h (suc d) → Ground k (takenOf g t) (s .links) → Over k (on k (queueOf g) (takenOf g t)) (s .links) h → (public k ≡ true → Quiet s t) →
+  prev-on : (k : Kind) (hd h d : ℕ) → on k (queueOf g) (takenOf g t) .log h ≡ hd → on k (queueOf g) (takenOf g t) .fl ≤ d
+      → Walk (on k (queueOf g) (takenOf g t)) (s .links) h (suc d) → Ground k (takenOf g t) (s .links)
+      → Over k (on k (queueOf g) (takenOf g t)) (s .links) h → (public k ≡ true → Quiet s t) →
       Inv g (moved s t (setPv (s .links) (g .log d) (g .log (suc d))) (s .wait) (walk k hd (g .log d)))
   prev-on k hd h d ish low w gr ov qt = go k ish low w gr ov qt
     where
-      main : (dl : g .lo ≤ d) (dh : suc d < g .hi) → Quiet s t → (k : Kind) → WalkAt k (queueOf g) (takenOf g t) (setPv (s .links) (g .log d) (g .log (suc d))) hd (g .log d) → Inv g (moved s t (setPv (s .links) (g .log d) (g .log (suc d))) (s .wait) (walk k hd (g .log d)))
+      main : (dl : g .lo ≤ d) (dh : suc d < g .hi) → Quiet s t → (k : Kind)
+          → WalkAt k (queueOf g) (takenOf g t) (setPv (s .links) (g .log d) (g .log (suc d))) hd (g .log d)
+          → Inv g (moved s t (setPv (s .links) (g .log d) (g .log (suc d))) (s .wait) (walk k hd (g .log d)))
       main dl dh qt k w = step g s v t g (setPv (s .links) (g .log d) (g .log (suc d))) (s .wait) (walk k hd (g .log d)) (v .parts) (Queue.store-pv (queueOf g) (s .links) (live g s v t) (v .queue) d dl dh) w (λ f. absurd (false≢true f)) λ u ne.
           spared-on g s v t (setPv (s .links) (g .log d) (g .log (suc d))) d 0 (v .parts .queued d dl (omega arith)) (only-pv (s .links) (g .log d) (g .log (suc d))) g refl u ne (λ e. omega arith) refl
           (λ _. record { lo = refl; fl = refl; hi = omega arith; log = λ i a b. refl; back = λ i a b e. Queue.pv-right (queueOf g) (s .links) (live g s v t) (v .queue) d dl dh i a (omega arith) e })
           (never (qt u ne))
           (never (qt u ne))
 
-      go : (k : Kind) → on k (queueOf g) (takenOf g t) .log h ≡ hd → on k (queueOf g) (takenOf g t) .fl ≤ d → Walk (on k (queueOf g) (takenOf g t)) (s .links) h (suc d) → Ground k (takenOf g t) (s .links) → Over k (on k (queueOf g) (takenOf g t)) (s .links) h → (public k ≡ true → Quiet s t) →
+      go : (k : Kind) → on k (queueOf g) (takenOf g t) .log h ≡ hd → on k (queueOf g) (takenOf g t) .fl ≤ d
+          → Walk (on k (queueOf g) (takenOf g t)) (s .links) h (suc d) → Ground k (takenOf g t) (s .links)
+          → Over k (on k (queueOf g) (takenOf g t)) (s .links) h → (public k ≡ true → Quiet s t) →
           Inv g (moved s t (setPv (s .links) (g .log d) (g .log (suc d))) (s .wait) (walk k hd (g .log d)))
       go looks ish low w gr ov qt =
           let dl : g .lo ≤ d = omega arith in
@@ -116,7 +123,8 @@ module _ (g : Ghost) (s : St) (v : Inv g s) (t : ℕ) where
           (λ f. absurd (false≢true f))
           (spared-off g s v t (setPv (s .links) (g .log d) (g .log (suc d))) d (suc t) hd′ on′ refl)
 
-  pub store-prev : (k : Kind) (hd cu nn : ℕ) → s .role t ≡ link k hd cu nn → (public k ≡ true → Quiet s t) → Inv g (moved s t (setPv (s .links) nn cu) (s .wait) (walk k hd nn))
+  pub store-prev : (k : Kind) (hd cu nn : ℕ) → s .role t ≡ link k hd cu nn → (public k ≡ true → Quiet s t)
+      → Inv g (moved s t (setPv (s .links) nn cu) (s .wait) (walk k hd nn))
   store-prev k hd cu nn e qt =
       subst₂ (λ n c. Inv g (moved s t (setPv (s .links) n c) (s .wait) (walk k hd n))) (log-on k (w .past .d) ∙ w .isn) (log-on k (suc (w .past .d)) ∙ w .past .isc)
       (prev-on k hd (w .past .h) (w .past .d) (w .past .ish) (w .past .low) (w .past .way) (w .past .ground) (w .past .over) qt)
@@ -133,7 +141,8 @@ module _ (g : Ghost) (s : St) (v : Inv g s) (t : ℕ) where
   full-tl x h k n f = record { base = f .base; low = f .low; top = f .top; back = f .back }
 
   -- nobody but the walkers that load it notices a tail
-  tail-on : (l′ : Links) (h : ℕ) (z : ℕ) → l′ ≡ setTl (s .links) (g .log h) z → g .lo ≤ h → h < g .hi → Queue (queueOf g) l′ → (r : Role) → Know (queueOf g) (takenOf g t) l′ t r → filled r ≡ false → Inv g (moved s t l′ (s .wait) r)
+  tail-on : (l′ : Links) (h : ℕ) (z : ℕ) → l′ ≡ setTl (s .links) (g .log h) z → g .lo ≤ h → h < g .hi → Queue (queueOf g) l′ → (r : Role)
+      → Know (queueOf g) (takenOf g t) l′ t r → filled r ≡ false → Inv g (moved s t l′ (s .wait) r)
   tail-on l′ h z el a b q r k f = step g s v t g l′ (s .wait) r (v .parts) q k (never f) λ u ne.
       spared-on g s v t l′ h 0 (v .parts .queued h a b) (rw el (only-tl (s .links) (g .log h) z)) g refl u ne (λ e. omega arith) refl
       (λ _. record { lo = refl; fl = refl; hi = omega arith; log = λ i x y. refl; back = λ i x y e. rw el e })

@@ -44,7 +44,8 @@ module _ (m : Machine) (ok : Ok m) (e : Event) where
   as-holders h z = ap (λ n. sum n (λ u. readsOf (holdersOf (after m e) u))) (same-count m e) ∙ ap (λ f. sum (m .count) (λ u. readsOf (f u))) z
 
   -- the thread's holding becomes x
-  becomes : (x : Holding) → e .thread .0 < m .count → holdersOf (after m e) ≡ upd (holdersOf m) (e .thread .0) x → readersIn (after m e) + readsOf (holdersOf m (e .thread .0)) ≡ readersIn m + readsOf x
+  becomes : (x : Holding) → e .thread .0 < m .count → holdersOf (after m e) ≡ upd (holdersOf m) (e .thread .0) x
+      → readersIn (after m e) + readsOf (holdersOf m (e .thread .0)) ≡ readersIn m + readsOf x
   becomes x l z = ap (λ r. r + readsOf (holdersOf m (e .thread .0))) (as-holders _ z) ∙ sum-upd (m .count) readsOf (holdersOf m) (e .thread .0) x l
 
   holds-within : 1 ≤ readsOf (holdersOf m (e .thread .0)) + writesOf (holdersOf m (e .thread .0)) → e .thread .0 < m .count
@@ -97,7 +98,8 @@ module _ (m : Machine) (ok : Ok m) where
   in-downgrade : queued (m .word) ≡ true → downgraded (m .word) ≡ true → readersIn m ≡ 1
   in-downgrade q d = i .count .handed q (i .handed q d .1) d .reads
 
-  in-oldest : 1 ≤ readersIn m → queued (m .word) ≡ true → downgraded (m .word) ≡ false → (ns : List NodeNumber) → listedOf m ≡ listed ns → nodeBy m (oldest ns) .next .0 ≡ SINGLE * readersIn m
+  in-oldest : 1 ≤ readersIn m → queued (m .word) ≡ true → downgraded (m .word) ≡ false → (ns : List NodeNumber) → listedOf m ≡ listed ns
+      → nodeBy m (oldest ns) .next .0 ≡ SINGLE * readersIn m
   in-oldest some q d ns is =
       let v : Newest g (m .word) = i .newest q in
       let size : g .hi - g .lo ≡ suc (v .ticket - g .lo) = omega arith in

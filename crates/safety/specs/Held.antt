@@ -107,7 +107,9 @@ module _ (m : Machine) (ok : Ok m) where
         ap (prepend current) (goes-back m part mine-live mine-range (suc (part .lo)) (omega arith) (w .mine) (part .hi - suc (part .lo)) (m .count) (suc (part .lo)) prev (omega (arith, few-tickets m part mine-live mine-range (omega (arith, w .some)))) (omega arith) (omega (arith, w .some)) (begins (part .hi - suc (part .lo)) refl (w .rest)))
         ∙ rw size (ap (λ x. listed (x ∷ up (g .log) (suc (part .lo)) (part .hi - suc (part .lo)))) (node-is current (g .log (part .lo)) (sym (w .isc))))
       where
-        begins : (k : ℕ) → part .hi - suc (part .lo) ≡ k → ((suc (part .lo) ≡ part .hi) × (prev .0 ≡ 0)) ⊎ ((suc (part .lo) < part .hi) × (g .log (suc (part .lo)) ≡ prev .0)) → Begins m part mine-live mine-range k (suc (part .lo)) prev
+        begins : (k : ℕ) → part .hi - suc (part .lo) ≡ k
+            → ((suc (part .lo) ≡ part .hi) × (prev .0 ≡ 0)) ⊎ ((suc (part .lo) < part .hi) × (g .log (suc (part .lo)) ≡ prev .0))
+            → Begins m part mine-live mine-range k (suc (part .lo)) prev
         begins zero e (inl z) = z .1
         begins zero e (inr z) = absurd (omega arith)
         begins (suc k) e (inl z) = absurd (omega arith)

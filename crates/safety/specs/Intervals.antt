@@ -111,14 +111,18 @@ module _ (m : Machine) where
       to-set k (suc left) a b f =
           stood-on (q .lo + k) (omega arith) b (onward left (node (q .log (q .lo + k)))) ∙ ap (prepend (node (q .log (q .lo + k)))) (by (λ j. to-set j left) k a b f (v .valid (q .lo + k) f b))
         where
-          found : (k : ℕ) → k ≤ left → q .lo + k < q .hi → nodeIn (m .nodes) (q .log (q .lo + k)) .tail .0 ≡ q .log (q .lo) → onward left (node (q .log (q .lo + k))) ≡ listed (down (q .log) (q .lo) k)
+          found : (k : ℕ) → k ≤ left → q .lo + k < q .hi → nodeIn (m .nodes) (q .log (q .lo + k)) .tail .0 ≡ q .log (q .lo)
+              → onward left (node (q .log (q .lo + k))) ≡ listed (down (q .log) (q .lo) k)
           found k a b e =
               let t : nodeBy m (node (q .log (q .lo + k))) .tail ≡ node (q .log (q .lo)) = node-is _ _ (tail-of (q .lo + k) (omega arith) b ∙ e) in
               sym (pick-no (isNone (nodeBy m (node (q .log (q .lo + k))) .tail)) _ _ _ (ap isNone t ∙ ne-eqb (q .log (q .lo)) 0 (d .some (q .lo) (omega arith) (omega arith))) refl)
               ∙ ap (λ z. toTail left m z (node (q .log (q .lo + k)))) t
               ∙ to-tail k left a b
 
-          by : ((j : ℕ) → j < left → q .lo + j < q .hi → q .fl ≤ q .lo + j → toSet left m (node (q .log (q .lo + j))) ≡ listed (down (q .log) (q .lo) (suc j))) → (k : ℕ) → k < suc left → q .lo + k < q .hi → q .fl ≤ q .lo + k → (nodeIn (m .nodes) (q .log (q .lo + k)) .tail .0 ≡ 0) ⊎ Set q (linksOf (nodeIn (m .nodes))) (q .lo + k) → onward left (node (q .log (q .lo + k))) ≡ listed (down (q .log) (q .lo) k)
+          by : ((j : ℕ) → j < left → q .lo + j < q .hi → q .fl ≤ q .lo + j → toSet left m (node (q .log (q .lo + j))) ≡ listed (down (q .log) (q .lo) (suc j)))
+              → (k : ℕ) → k < suc left → q .lo + k < q .hi → q .fl ≤ q .lo + k
+              → (nodeIn (m .nodes) (q .log (q .lo + k)) .tail .0 ≡ 0) ⊎ Set q (linksOf (nodeIn (m .nodes))) (q .lo + k)
+              → onward left (node (q .log (q .lo + k))) ≡ listed (down (q .log) (q .lo) k)
           by r k a b f (inr e) = found k (omega arith) b (e .0)
           by r zero a b f (inl e) = absurd (above-floor (q .lo + 0) b e (omega (arith, v .base)))
           by r (suc k) a b f (inl e) =

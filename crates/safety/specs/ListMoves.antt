@@ -48,7 +48,8 @@ HeldAfter takesAll q h q′ h′ = (q′ ≡ []) × (h ≡ []) × (h′ ≡ q)
 HeldAfter (completes k) q h q′ h′ = (q′ ≡ q) × (h ≡ k ∷ h′)
 
 -- what is held is on one list or on the other
-lists-apart : (e : QueueEffect) (q h q′ h′ : List NodeNumber) (a a′ : Bool) → AsideAfter e a a′ → HeldAfter e q h q′ h′ → ListsAfter e q (pick a h []) (pick a [] h) q′ (pick a′ h′ []) (pick a′ [] h′)
+lists-apart : (e : QueueEffect) (q h q′ h′ : List NodeNumber) (a a′ : Bool) → AsideAfter e a a′ → HeldAfter e q h q′ h′
+    → ListsAfter e q (pick a h []) (pick a [] h) q′ (pick a′ h′ []) (pick a′ [] h′)
 lists-apart stands q h q′ h′ a a′ s m = rw s (m .0, ap (λ l. pick a l []) (m .1), ap (λ l. pick a [] l) (m .1))
 lists-apart (registers k) q h q′ h′ a a′ s m = rw (s .0, s .1) (m .0, refl, m .1)
 lists-apart (setsAside k) q h q′ h′ a a′ s m = rw (s .0, s .1) (m .0, refl, m .2, sym (m .1))

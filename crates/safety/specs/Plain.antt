@@ -229,7 +229,8 @@ module _ (m : Machine) (ok : Ok m) (e : Event) where
       not-write : (h : Holding) → writesOf h ≡ 0 → h ≢ Write
       not-write h z f = omega (arith, ap writesOf f)
 
-      by : (f : LockEffect) → HeldFor f (holdersOf m (e .thread .0)) → holdersOf (after m e) (e .thread .0) ≡ heldAfter f (holdersOf m (e .thread .0)) → Allows f (holdersOf m) (e .thread .0) (holdersOf (after m e))
+      by : (f : LockEffect) → HeldFor f (holdersOf m (e .thread .0)) → holdersOf (after m e) (e .thread .0) ≡ heldAfter f (holdersOf m (e .thread .0))
+          → Allows f (holdersOf m) (e .thread .0) (holdersOf (after m e))
       by keeps a z = all-hold (holdersOf m (e .thread .0)) z ∙ upd-self (holdersOf m) (e .thread .0)
       by grantsRead a z = (
         free-is _ a,

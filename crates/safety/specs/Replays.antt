@@ -36,7 +36,9 @@ replay-runs m ok [] = record { events = []; machine = refl; not-eight = λ e. le
 replay-runs m ok (odd ∷ []) = record { events = []; machine = refl; not-eight = λ e. let bad : _≡_ {A = ℕ} 0 1 = cc in omega arith }
 replay-runs m ok (code ∷ t ∷ s) = by (eventOf m code (thread t) .reply) refl (replay-runs (eventOf m code (thread t) .machine) (event-safe m ok (thread t) code .ok) s)
   where
-    by : (r : Reply) → eventOf m code (thread t) .reply ≡ r → RunsTo (eventOf m code (thread t) .machine) (replayOf (eventOf m code (thread t) .machine) s) → RunsTo m (goesOn m r (replayOf (eventOf m code (thread t) .machine) s))
+    by : (r : Reply) → eventOf m code (thread t) .reply ≡ r
+        → RunsTo (eventOf m code (thread t) .machine) (replayOf (eventOf m code (thread t) .machine) s)
+        → RunsTo m (goesOn m r (replayOf (eventOf m code (thread t) .machine) s))
     by (Refused r) e later = record { events = []; machine = refl; not-eight = λ z. event-safe m ok (thread t) code .not-eight (e ∙ cc z) }
     by (Accepted a w) e later = record { events = record { code = code; thread = thread t } ∷ later .events; machine = later .machine; not-eight = later .not-eight }
 

@@ -54,7 +54,8 @@ touched-alive n es t =
     waits : (k : NodeNumber) → Waiting (reached n es .count) (lockOf (reached n es)) (ok .ghost) (ok .inv) (k .0) → Waits (reached n es) k
     waits k w = waiter-is (reached n es) ok (k .0) (waiter-of (lockOf (reached n es)) (k .0) w)
 
-    accessed : {k : NodeNumber} → (k .0 ≡ t .0 + 1) ⊎ Waiting (reached n es .count) (lockOf (reached n es)) (ok .ghost) (ok .inv) (k .0) → (k ≡ nodeOf t) ⊎ Waits (reached n es) k
+    accessed : {k : NodeNumber} → (k .0 ≡ t .0 + 1) ⊎ Waiting (reached n es .count) (lockOf (reached n es)) (ok .ghost) (ok .inv) (k .0)
+        → (k ≡ nodeOf t) ⊎ Waits (reached n es) k
     accessed {k} (inl e) = inl (node-is k (t .0 + 1) e)
     accessed {k} (inr w) = inr (waits k w)
 
