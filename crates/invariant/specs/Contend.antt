@@ -111,7 +111,9 @@ module _ (n : ℕ) (s : Lock) (g : Ghost) (i : Inv n s g) (me : ThreadNumber) (t
       nd′ = upd (s .nd) (suc (me .0)) (filledOf me writer (s .word))
 
       same : waitOf (upd (s .th) (me .0) x) nd′ ≡ waitOf (s .th) (s .nd)
-      same = waits-as s (me .0) x nd′ (waitOf (s .th) (s .nd)) refl (sym unregistered) (λ u ne. ap (λ y. pick (aboutAt s u .registered) (not (y .completed)) false) (upd-other (s .nd) (suc (me .0)) (filledOf me writer (s .word)) (suc u) (λ z. ne (omega arith))))
+      same =
+          waits-as s (me .0) x nd′ (waitOf (s .th) (s .nd)) refl (sym unregistered)
+          (λ u ne. ap (λ y. pick (aboutAt s u .registered) (not (y .completed)) false) (upd-other (s .nd) (suc (me .0)) (filledOf me writer (s .word)) (suc u) (λ z. ne (omega arith))))
 
       filled : Q.Inv g (Q.moved (queueOf s) (me .0) (Q.fillLinks (linksOf (s .nd)) (suc (me .0)) (not (queued (s .word))) (withoutFlags (s .word) .0)) (waitOf (s .th) (s .nd)) (ready (not (queued (s .word))) (withoutFlags (s .word) .0)))
       filled = rw Q.moved-twice at (Registering.fill g (Q.moved (queueOf s) (me .0) (linksOf (s .nd)) (waitOf (s .th) (s .nd)) none) (c .down .role) (me .0) (not (queued (s .word))) (withoutFlags (s .word) .0) (upd-same (roleOf (s .th)) (me .0) none) unregistered)
@@ -147,7 +149,9 @@ module _ (n : ℕ) (s : Lock) (g : Ghost) (i : Inv n s g) (me : ThreadNumber) (t
   module _ (writer : Bool) (reloads : ℕ) where
     on-to : (q : Place) → about q ≡ off free false false true → standOf q ≡ elsewhere → isAside q ≡ false
         → Kept n s g me (suc (me .0)) (stays (lookAt s me (suc (me .0)) mark fails) (at q))
-    on-to q told away near = kept-still n s g me (suc (me .0)) _ _ g (c .unmoved q away near) (hop n s g i (me .0) tin (c .down) q (rw told (is-off _ _ _ _)) (rw told (c .free)) (rw told (never refl)) (rw told (sym (c .leaves))) (λ _. rw told))
+    on-to q told away near =
+        kept-still n s g me (suc (me .0)) _ _ g (c .unmoved q away near)
+        (hop n s g i (me .0) tin (c .down) q (rw told (is-off _ _ _ _)) (rw told (c .free)) (rw told (never refl)) (rw told (sym (c .leaves))) (λ _. rw told))
 
     pub contend : Kept n s g me (suc (me .0)) (contendJudged (lookAt s me (suc (me .0)) mark fails) writer reloads (s .word))
     contend = by (permittedOf writer (s .word)) refl

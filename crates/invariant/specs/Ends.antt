@@ -35,7 +35,9 @@ module _ (n : ℕ) (s : Lock) (g : Ghost) (i : Inv n s g) (t : ℕ) (tin : t < n
 
   -- read_lock grants: one reader more
   pub ended-read : Free (s .th t .holding) → leaver (s .th t) ≡ 0 → (to : Word) → readLockOf (s .word) ≡ To to → Ended n s g i t tin o to (grantedRead (s .th t .holding))
-  ended-read h leaves to e = ended-bare to (grantedRead (s .th t .holding)) (d .unqueued) (readers-word to (readers n s + 1) (x .0) .is) (λ r v l er ev el. read (omega (arith, x)) (omega arith) (record { reads = refl; writes = omega (arith, x); leaves = omega (arith, x) }))
+  ended-read h leaves to e =
+      ended-bare to (grantedRead (s .th t .holding)) (d .unqueued) (readers-word to (readers n s + 1) (x .0) .is)
+      (λ r v l er ev el. read (omega (arith, x)) (omega arith) (record { reads = refl; writes = omega (arith, x); leaves = omega (arith, x) }))
     where
       d : ReadGranted (s .word) to
       d = read-lock-granted (s .word) to e

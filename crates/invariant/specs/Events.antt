@@ -145,7 +145,9 @@ module _ (m : Machine) (ok : Ok m) (me : ThreadNumber) (tin : me .0 < m .count) 
         differ j f = let bad : _≡_ {A = ℕ} 0 1 = cc in omega arith
 
         by : (touchedOf (accessOf me p) me .0 ≡ me .0 + 1) ⊎ Waiting (m .count) (lockOf m) (ok .ghost) (ok .inv) (touchedOf (accessOf me p) me .0) → ⊥
-        by (inl z) = differ _ (sym (pick-no (ltb (touchedOf (accessOf me p) me .0) 1) _ Outside _ (le-ltb (touchedOf (accessOf me p) me .0) 1 (omega arith)) (pick-no (ltb (m .count) (touchedOf (accessOf me p) me .0)) _ Outside _ (le-ltb (m .count) (touchedOf (accessOf me p) me .0) (omega arith)) refl)))
+        by (inl z) =
+            differ _
+            (sym (pick-no (ltb (touchedOf (accessOf me p) me .0) 1) _ Outside _ (le-ltb (touchedOf (accessOf me p) me .0) 1 (omega arith)) (pick-no (ltb (m .count) (touchedOf (accessOf me p) me .0)) _ Outside _ (le-ltb (m .count) (touchedOf (accessOf me p) me .0) (omega arith)) refl)))
         by (inr w) = let x : (j : ℕ) × (slotOf (touchedOf (accessOf me p) me) (m .count) ≡ At j) = slot-waiting (m .count) (lockOf m) (ok .ghost) (ok .inv) (touchedOf (accessOf me p) me) w in differ (x .0) (x .1)
 
     -- and the tail that a walk found its writer mark

@@ -68,12 +68,16 @@ module _ (n : ℕ) (s : Lock) (g : Ghost) (i : Inv n s g) (me : ThreadNumber) (t
       again = judged (TryReadCas blocking seen) here refl refl blocking (readLockOf (s .word))
 
       by : s .word ≡ seen → (r : ReadLocked) → readLockOf seen ≡ r → Kept n s g me k (tryReadCasBy (lookAt s me k mark fails) blocking r)
-      by same (To to) e = at-end (TryReadCas blocking seen) here refl blocking to _ (finish n s g i (me .0) tin _ to _ (ended-read n s g i (me .0) tin (is-first (TryReadCas blocking seen) here refl refl) (nothing (TryReadCas blocking seen) here refl refl) (no-leaver (TryReadCas blocking seen) here refl refl) to (ap readLockOf same ∙ e)))
+      by same (To to) e =
+          at-end (TryReadCas blocking seen) here refl blocking to _
+          (finish n s g i (me .0) tin _ to _ (ended-read n s g i (me .0) tin (is-first (TryReadCas blocking seen) here refl refl) (nothing (TryReadCas blocking seen) here refl refl) (no-leaver (TryReadCas blocking seen) here refl refl) to (ap readLockOf same ∙ e)))
       by same Refused e = again
 
   pub kept-try-write-or : (blocking : Bool) → s .th (me .0) .place ≡ TryWriteOr blocking → Goes n s g me mark fails k (λ v. tryWriteOrOf v blocking)
   kept-try-write-or blocking here = pick-both (Kept n s g me k) (locked (s .word)) _ _ (λ e. held blocking) (λ e. at-end (TryWriteOr blocking) here refl blocking _ _ (finish n s g i (me .0) tin _ _ _ (ended-written n s g i (me .0) tin (is-first (TryWriteOr blocking) here refl refl) (nothing (TryWriteOr blocking) here refl refl) (no-leaver (TryWriteOr blocking) here refl refl) e)))
     where
       held : (b : Bool) → Kept n s g me k (stays (lookAt s me k mark fails) (tryWriteRefused b))
-      held true = kept-still n s g me k _ _ g (stood me g _ (TryWriteOr blocking) here refl _ refl) (on-to (TryWriteOr blocking) here refl refl (ContendLoad true 0) (is-off _ _ _ _) (nothing (TryWriteOr blocking) here refl refl) refl refl)
+      held true =
+          kept-still n s g me k _ _ g (stood me g _ (TryWriteOr blocking) here refl _ refl)
+          (on-to (TryWriteOr blocking) here refl refl (ContendLoad true 0) (is-off _ _ _ _) (nothing (TryWriteOr blocking) here refl refl) refl refl)
       held false = kept-still n s g me k _ _ g (stood me g _ (TryWriteOr blocking) here refl _ refl) (on-to (TryWriteOr blocking) here refl refl Idle (is-off _ _ _ _) tt refl refl)

@@ -61,7 +61,9 @@ module _ (n : ℕ) (s : Lock) (g : Ghost) (i : Inv n s g) (me : ThreadNumber) (t
   module _ (r : Role) (ok : Bool) (is : aboutAt s (me .0) ≡ owning who seen r ok) where
     pub again : Q.Inv g (Q.moved (queueOf s) (me .0) (linksOf (s .nd)) (waitOf (s .th) (s .nd)) none)
         → Inv n (moved s (me .0) (s .word) (placed (s .th (me .0)) (WalkTail (Queue who) (s .word) (toNode (s .word)))) (s .nd)) g
-    again down = stroll n s g i (me .0) tin (WalkTail (Queue who) (s .word) (toNode (s .word))) (rw is (alike-own who seen (s .word) r _ ok true refl refl)) (s .nd) (linksOf (s .nd)) (unlinked (s .nd)) (λ x _. real-hands-off n s g i x) begun
+    again down =
+        stroll n s g i (me .0) tin (WalkTail (Queue who) (s .word) (toNode (s .word))) (rw is (alike-own who seen (s .word) r _ ok true refl refl))
+        (s .nd) (linksOf (s .nd)) (unlinked (s .nd)) (λ x _. real-hands-off n s g i x) begun
       where
         v : Newest g (s .word)
         v = i .newest (owner-queued (rw is refl))
@@ -164,8 +166,14 @@ module _ (n : ℕ) (s : Lock) (g : Ghost) (i : Inv n s g) (me : ThreadNumber) (t
       flags = held-off (rw is at (i .fits (me .0)))
 
       ends : (o : Who) → o ≡ who → s .word ≡ seen → Inv n (moved s (me .0) (clearQueueLocked (s .word)) (placed (s .th (me .0)) (afterQueue o .place)) (s .nd)) g
-      ends (Waiter writer) z same = unown none (handsOff seen) is (CompletedLoad writer) (record { owner = refl; reader = refl; registered = ap waiter z; asleep = refl; unfilled = refl; ok = refl; leaves = refl; needsQueue = refl; may = λ h. h }) (ap downgraded same ∙ flags .1) (put-down (rw is refl)) (λ e. never e (ap locked same ∙ flags .0))
-      ends Leaver z same = unown none (handsOff seen) is Idle (record { owner = refl; reader = refl; registered = ap waiter z; asleep = refl; unfilled = refl; ok = refl; leaves = refl; needsQueue = refl; may = λ h. tt }) (ap downgraded same ∙ flags .1) (put-down (rw is refl)) (λ e. never e (ap locked same ∙ flags .0))
+      ends (Waiter writer) z same =
+          unown none (handsOff seen) is (CompletedLoad writer)
+          (record { owner = refl; reader = refl; registered = ap waiter z; asleep = refl; unfilled = refl; ok = refl; leaves = refl; needsQueue = refl; may = λ h. h })
+          (ap downgraded same ∙ flags .1) (put-down (rw is refl)) (λ e. never e (ap locked same ∙ flags .0))
+      ends Leaver z same =
+          unown none (handsOff seen) is Idle
+          (record { owner = refl; reader = refl; registered = ap waiter z; asleep = refl; unfilled = refl; ok = refl; leaves = refl; needsQueue = refl; may = λ h. tt })
+          (ap downgraded same ∙ flags .1) (put-down (rw is refl)) (λ e. never e (ap locked same ∙ flags .0))
 
       near : (o : Who) → isAside (afterQueue o .place) ≡ false
       near (Waiter writer) = refl
@@ -173,4 +181,6 @@ module _ (n : ℕ) (s : Lock) (g : Ghost) (i : Inv n s g) (me : ThreadNumber) (t
 
       clears : (o : Who) → o ≡ who → s .word ≡ seen
           → Kept n s g me (suc (me .0)) (writes (lookAt s me (suc (me .0)) mark fails) (clearQueueLocked seen) (s .th (me .0) .holding) (afterQueue o))
-      clears o z same = kept-still n s g me (suc (me .0)) _ _ g (stood me g _ (QueueCas who seen) here refl _ (near o)) (subst (λ x. Inv n (moved s (me .0) (clearQueueLocked x) (placed (s .th (me .0)) (afterQueue o .place)) (s .nd)) g) same (ends o z same))
+      clears o z same =
+          kept-still n s g me (suc (me .0)) _ _ g (stood me g _ (QueueCas who seen) here refl _ (near o))
+          (subst (λ x. Inv n (moved s (me .0) (clearQueueLocked x) (placed (s .th (me .0)) (afterQueue o .place)) (s .nd)) g) same (ends o z same))

@@ -144,7 +144,9 @@ module _ (n : ℕ) (s : Lock) (g : Ghost) (i : Inv n s g) (me : ThreadNumber) (t
 
   -- one reader fewer
   left-word : queued (s .word) ≡ false → Ended n s g i (me .0) tin down (fewer (s .word)) (releasedRead (s .th (me .0) .holding))
-  left-word q = ended-bare n s g i (me .0) tin down (fewer (s .word)) (releasedRead (s .th (me .0) .holding)) q (by-plain (readers n s - 1) refl) (λ r v l er ev el. counts r v l (omega (arith, holds)) (omega (arith, holds, c)) (omega (arith, left, c)) (readers n s - 1) refl)
+  left-word q =
+      ended-bare n s g i (me .0) tin down (fewer (s .word)) (releasedRead (s .th (me .0) .holding)) q (by-plain (readers n s - 1) refl)
+      (λ r v l er ev el. counts r v l (omega (arith, holds)) (omega (arith, holds, c)) (omega (arith, left, c)) (readers n s - 1) refl)
     where
       c : (s .word .0 ≡ SINGLE * readers n s + LOCKED) × (writers n s ≡ 0) × (leavers n s ≡ 0)
       c = counted q

@@ -204,12 +204,18 @@ module _ (n : ℕ) (s : Lock) (g : Ghost) (i : Inv n s g) (me : ThreadNumber) (t
   -- on to wait, by a thread that does not own the queue
   pub register-waits : queued (s .word) ≡ queueLocked (s .word)
       → Inv n (moved s (me .0) w (placed (s .th (me .0)) (CompletedLoad writer)) (s .nd)) (registered g (suc (me .0)))
-  register-waits same = register (CompletedLoad writer) (record { registered = refl; reader = refl; asleep = refl; unfilled = refl; ok = refl; leaves = refl; needsQueue = refl }) (λ h. h) (rw same (omega arith)) (never refl) joined
+  register-waits same =
+      register (CompletedLoad writer)
+      (record { registered = refl; reader = refl; asleep = refl; unfilled = refl; ok = refl; leaves = refl; needsQueue = refl }) (λ h. h)
+      (rw same (omega arith)) (never refl) joined
 
   -- or to walk, by the one that turned QUEUE_LOCKED on
   pub register-walks : queued (s .word) ≡ true → queueLocked (s .word) ≡ false
       → Inv n (moved s (me .0) w (placed (s .th (me .0)) (WalkTail (Queue (Waiter writer)) w (toNode w))) (s .nd)) (registered g (suc (me .0)))
-  register-walks q f = register (WalkTail (Queue (Waiter writer)) w (toNode w)) (record { registered = refl; reader = refl; asleep = refl; unfilled = refl; ok = refl; leaves = refl; needsQueue = refl }) (λ h. h) (rw (q, f)) (λ _. refl) begun
+  register-walks q f =
+      register (WalkTail (Queue (Waiter writer)) w (toNode w))
+      (record { registered = refl; reader = refl; asleep = refl; unfilled = refl; ok = refl; leaves = refl; needsQueue = refl }) (λ h. h) (rw (q, f))
+      (λ _. refl) begun
     where
       public-look : (c : Bool) → public (lookKind c) ≡ true
       public-look true = refl
@@ -252,4 +258,7 @@ module _ (n : ℕ) (s : Lock) (g : Ghost) (i : Inv n s g) (me : ThreadNumber) (t
     where
       by : (seen : Word) → s .word ≡ seen → s .th (me .0) .place ≡ RegisterCas writer reloads seen
           → Kept n s g me (suc (me .0)) (writes (lookAt s me (suc (me .0)) mark fails) (registeredOf seen me) (s .th (me .0) .holding) (afterRegister writer seen (registeredOf seen me)))
-      by seen same = subst (λ x. s .th (me .0) .place ≡ RegisterCas writer reloads x → Kept n s g me (suc (me .0)) (writes (lookAt s me (suc (me .0)) mark fails) (registeredOf x me) (s .th (me .0) .holding) (afterRegister writer x (registeredOf x me)))) same succeeds
+      by seen same =
+          subst
+          (λ x. s .th (me .0) .place ≡ RegisterCas writer reloads x → Kept n s g me (suc (me .0)) (writes (lookAt s me (suc (me .0)) mark fails) (registeredOf x me) (s .th (me .0) .holding) (afterRegister writer x (registeredOf x me))))
+          same succeeds

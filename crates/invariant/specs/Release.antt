@@ -67,7 +67,10 @@ module _ (n : ℕ) (s : Lock) (g : Ghost) (i : Inv n s g) (me : ThreadNumber) (t
       has-queue ne = not-false (queued (s .word)) (λ q. ne (sole-bare n s g i some q .0))
 
       released : s .word .0 ≡ LOCKED → Ended n s g i (me .0) tin down (word 0) (releasedWrite (s .th (me .0) .holding))
-      released e = ended-bare n s g i (me .0) tin down (word 0) (releasedWrite (s .th (me .0) .holding)) q (record { unqueued = refl; unowned = refl; plain = refl }) (λ r v l er ev el. empty refl (record { reads = omega (arith, holds, only); writes = omega (arith, holds, only); leaves = omega (arith, only) }))
+      released e =
+          ended-bare n s g i (me .0) tin down (word 0) (releasedWrite (s .th (me .0) .holding)) q
+          (record { unqueued = refl; unowned = refl; plain = refl })
+          (λ r v l er ev el. empty refl (record { reads = omega (arith, holds, only); writes = omega (arith, holds, only); leaves = omega (arith, only) }))
         where
           q : queued (s .word) ≡ false
           q = ap queued (word-is (s .word) LOCKED e)

@@ -57,7 +57,9 @@ module _ (n : ℕ) (s : Lock) (g : Ghost) (i : Inv n s g) (me : ThreadNumber) (t
   on-to : (r r′ : Role) (ok ok′ : Bool) → aboutAt s (me .0) ≡ owning who seen r ok → (p : Place) → about p ≡ owning who seen r′ ok′
       → filled r′ ≡ false → ok′ ≡ true → Q.Inv g (Q.moved (queueOf s) (me .0) (linksOf (s .nd)) (waitOf (s .th) (s .nd)) r′)
       → Inv n (moved s (me .0) (s .word) (placed (s .th (me .0)) p) (s .nd)) g
-  on-to r r′ ok ok′ is p on f e q = stroll n s g i (me .0) tin p (rw (is, on) (alike-own who seen seen r r′ ok ok′ f e)) (s .nd) (linksOf (s .nd)) (unlinked (s .nd)) (λ x _. ap handsOff (ap (λ a. a .seen) on) ∙ (rw is at (i .calm x (me .0))) refl) (rw on q)
+  on-to r r′ ok ok′ is p on f e q =
+      stroll n s g i (me .0) tin p (rw (is, on) (alike-own who seen seen r r′ ok ok′ f e)) (s .nd) (linksOf (s .nd))
+      (unlinked (s .nd)) (λ x _. ap handsOff (ap (λ a. a .seen) on) ∙ (rw is at (i .calm x (me .0))) refl) (rw on q)
 
   pub kept-split-prev : s .th (me .0) .place ≡ SplitPrev who seen tail → Goes n s g me mark fails (tail .0) (λ v. splitPrevOf v who seen tail)
   kept-split-prev here = pick-both (Kept n s g me (tail .0)) (isNone (s .nd (tail .0) .prev)) _ _

@@ -29,7 +29,9 @@ module _ (n : ℕ) (s : Lock) (g : Ghost) (i : Inv n s g) (me : ThreadNumber) (t
     -- its role is none, before and after
     queue : (x : Thread) → about (x .place) .role ≡ none → waitOf (upd (s .th) (me .0) x) (s .nd) ≡ waitOf (s .th) (s .nd)
         → Q.Inv g (queueOf (moved s (me .0) (s .word) x (s .nd)))
-    queue x none-after same = subst (λ z. Q.Inv g z) (sym (view s (me .0) x (s .nd) (s .word) (linksOf (s .nd)) (waitOf (s .th) (s .nd)) refl same)) (rw none-after (Q.turn g (queueOf s) (i .queue) (me .0) none (rw told at (i .queue .know (me .0))) (never refl)))
+    queue x none-after same =
+        subst (λ z. Q.Inv g z) (sym (view s (me .0) x (s .nd) (s .word) (linksOf (s .nd)) (waitOf (s .th) (s .nd)) refl same))
+        (rw none-after (Q.turn g (queueOf s) (i .queue) (me .0) none (rw told at (i .queue .know (me .0))) (never refl)))
 
     -- it waits on, with a token or without
     waits-on : (q : Place) (token asleep′ : Bool) → about q ≡ waiting asleep′

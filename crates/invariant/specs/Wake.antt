@@ -238,7 +238,10 @@ module _ (n : ℕ) (few : n ≤ threadLimit) (s : Lock) (g : Ghost) (i : Inv n s
     wake-to : (p : Place) → Goes-on (about p) (s .th (me .0) .holding) (waiter who)
         → Q.Inv (completed g (me .0)) (Q.moved (queueOf called-first) (me .0) (linksOf (s .nd)) (upd (waitOf (called-first .th) (s .nd)) (current .0) false) (about p .role)) →
         Inv n (record { word = s .word; th = wokenIn (upd (s .th) (me .0) (placed (s .th (me .0)) p)) (ownerOf current); nd = upd (s .nd) (current .0) (withCompleted (s .nd (current .0))) }) (completed g (me .0))
-    wake-to p to q = subst (λ th. Inv n (record { word = s .word; th = th; nd = upd (s .nd) (current .0) (withCompleted (s .nd (current .0))) }) (completed g (me .0))) (woken p) (complete n called-first g with-token (me .0) tin who current prev (same-place ∙ here) has-token p (rw same-holding to) q)
+    wake-to p to q =
+        subst
+        (λ th. Inv n (record { word = s .word; th = th; nd = upd (s .nd) (current .0) (withCompleted (s .nd (current .0))) }) (completed g (me .0))) (woken p)
+        (complete n called-first g with-token (me .0) tin who current prev (same-place ∙ here) has-token p (rw same-holding to) q)
 
     role-is : roleOf (called-first .th) (me .0) ≡ store (current .0) (prev .0)
     role-is = ap (λ p. about p .role) (same-place ∙ here)
@@ -249,7 +252,24 @@ module _ (n : ℕ) (few : n ≤ threadLimit) (s : Lock) (g : Ghost) (i : Inv n s
     pub kept-wake-store : Goes n s g me mark fails (current .0) (λ v. wakeStoreOf v who current prev)
     kept-wake-store = pick-both (Kept n s g me (current .0)) (isNone prev) _ _
         (λ e. (completed g (me .0), last who refl (eqb-true (prev .0) 0 e), went-last who))
-        (λ e. (completed g (me .0), wake-to (WakePrev who prev) (record { owner = refl; reader = refl; unfilled = refl; asleep = refl; leaves = refl; needsQueue = refl; ok = refl; may = may; registered = refl }) (Taking.complete-more g (queueOf called-first) (with-token .queue) (me .0) (current .0) (prev .0) role-is (eqb-false (prev .0) 0 e)), completes-more me g _ who current prev here _ done-with))
+        (λ e. (
+          completed g (me .0),
+          wake-to (WakePrev who prev) (record {
+            owner =
+                refl;
+            reader = refl;
+            unfilled = refl;
+            asleep = refl;
+            leaves = refl;
+            needsQueue
+                = refl;
+            ok = refl;
+            may = may;
+            registered = refl;
+          }) (Taking.complete-more g (queueOf called-first) (with-token .queue) (me .0) (current .0) (prev
+              .0) role-is (eqb-false (prev .0) 0 e)),
+          completes-more me g _ who current prev here _ done-with,
+        ))
       where
         knows : StoreAt (takenOf g (me .0)) (linksOf (s .nd)) (current .0) (prev .0)
         knows = rw here at (i .queue .know (me .0))
@@ -266,6 +286,15 @@ module _ (n : ℕ) (few : n ≤ threadLimit) (s : Lock) (g : Ghost) (i : Inv n s
         finished z = Taking.complete-last g (queueOf called-first) (with-token .queue) (me .0) (current .0) (role-is ∙ ap (store (current .0)) z)
 
         last : (o : Who) → o ≡ who → prev .0 ≡ 0
-            → Inv n (record { word = s .word; th = wokenIn (upd (s .th) (me .0) (placed (s .th (me .0)) (afterQueue o .place))) (ownerOf current); nd = upd (s .nd) (current .0) (withCompleted (s .nd (current .0))) }) (completed g (me .0))
-        last (Waiter writer) o z = wake-to (CompletedLoad writer) (record { owner = refl; reader = refl; unfilled = refl; asleep = refl; leaves = refl; needsQueue = refl; ok = refl; may = rw (← o) at may; registered = ap waiter o }) (finished z)
+            → Inv n (record {
+              word =
+                  s .word;
+              th = wokenIn (upd (s .th) (me .0) (placed (s .th (me .0)) (afterQueue o .place))) (ownerOf current);
+              nd = upd
+                  (s .nd) (current .0) (withCompleted (s .nd (current .0)));
+            }) (completed g (me .0))
+        last (Waiter writer) o z =
+            wake-to (CompletedLoad writer)
+            (record { owner = refl; reader = refl; unfilled = refl; asleep = refl; leaves = refl; needsQueue = refl; ok = refl; may = rw (← o) at may; registered = ap waiter o })
+            (finished z)
         last Leaver o z = wake-to Idle (record { owner = refl; reader = refl; unfilled = refl; asleep = refl; leaves = refl; needsQueue = refl; ok = refl; may = tt; registered = ap waiter o }) (finished z)

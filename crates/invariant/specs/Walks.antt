@@ -57,7 +57,9 @@ module _ (n : ℕ) (s : Lock) (g : Ghost) (i : Inv n s g) (me : ThreadNumber) (t
 
   pub kept-walk-next : (k : Walk) (seen : Word) (current : NodeNumber) → s .th (me .0) .place ≡ WalkNext k seen current
       → Goes n s g me mark fails (current .0) (λ v. walkNextOf v k seen current)
-  kept-walk-next k seen current here = kept-still n s g me (current .0) _ _ g (stood me g _ (WalkNext k seen current) here refl _ refl) (stroll n s g i (me .0) tin (WalkPrev k seen current (toNode (s .nd (current .0) .next))) (alike k seen _ _ (ap about here) (WalkPrev k seen current (toNode (s .nd (current .0) .next))) refl refl) (s .nd) (linksOf (s .nd)) (unlinked (s .nd)) (calm k seen _ _ (ap about here) (WalkPrev k seen current (toNode (s .nd (current .0) .next))) refl refl)
+  kept-walk-next k seen current here =
+      kept-still n s g me (current .0) _ _ g (stood me g _ (WalkNext k seen current) here refl _ refl)
+      (stroll n s g i (me .0) tin (WalkPrev k seen current (toNode (s .nd (current .0) .next))) (alike k seen _ _ (ap about here) (WalkPrev k seen current (toNode (s .nd (current .0) .next))) refl refl) (s .nd) (linksOf (s .nd)) (unlinked (s .nd)) (calm k seen _ _ (ap about here) (WalkPrev k seen current (toNode (s .nd (current .0) .next))) refl refl)
       (Walking.load-next g (queueOf s) (i .queue) (me .0) (kindOf k seen) (toNode seen .0) (current .0) (ap (λ p. about p .role) here)))
 
   -- who walks on the queue is its owner or a contended reader: nobody else changes it

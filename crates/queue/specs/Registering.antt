@@ -83,7 +83,9 @@ module _ (g : Ghost) (s : St) (v : Inv g s) (t : ℕ) where
       untouched {h} {i} c x y (inr ne) = rw (old i (omega arith)) (c i x (omega arith))
 
   relogged : Queue (relog (queueOf g) (upd (g .log) (g .hi) (suc t))) (s .links)
-  relogged = Queue.queue-agree (queueOf g) (upd (g .log) (g .hi) (suc t)) (s .links) (s .links) (record { log = λ i a b. log-below g (s .wait) (v .parts) (suc t) i b; nx = λ i a b. refl; pv = λ i a b. refl; tl = λ i a b. refl }) (v .queue)
+  relogged =
+      Queue.queue-agree (queueOf g) (upd (g .log) (g .hi) (suc t)) (s .links) (s .links)
+      (record { log = λ i a b. log-below g (s .wait) (v .parts) (suc t) i b; nx = λ i a b. refl; pv = λ i a b. refl; tl = λ i a b. refl }) (v .queue)
 
   pub register-first : (n : ℕ) → s .role t ≡ ready true n → g .lo ≡ g .hi → Inv (registered g (suc t)) (moved s t (s .links) (upd (s .wait) (suc t) true) none)
   register-first n e z =

@@ -171,7 +171,10 @@ module _ (g : Ghost) (s : St) (v : Inv g s) (t : ℕ) where
   -- ── wake ──
 
   pub load-wake : (cu : ℕ) → s .role t ≡ wake cu → Inv g (moved s t (s .links) (s .wait) (store cu (s .links .pv cu)))
-  load-wake cu e = turn g s v t (store cu (s .links .pv cu)) (record { some = w .some; isc = w .isc; rest = go (eq? (suc a) b); mine = record { back = λ j x y. w .mine .back j (omega arith) y; newest = λ p z x. w .mine .newest p z (omega arith) } }) (λ f. absurd (false≢true f))
+  load-wake cu e =
+      turn g s v t (store cu (s .links .pv cu))
+      (record { some = w .some; isc = w .isc; rest = go (eq? (suc a) b); mine = record { back = λ j x y. w .mine .back j (omega arith) y; newest = λ p z x. w .mine .newest p z (omega arith) } })
+      (λ f. absurd (false≢true f))
     where
       a : ℕ
       a = g .taken t .beg

@@ -110,7 +110,17 @@ module _ (g : Ghost) (s : St) (v : Inv g s) (t : ℕ) where
       go changes ish low w gr ov qt =
           let dl : g .lo ≤ d = omega arith in
           let dh : suc d < g .hi = omega arith in
-          main dl dh (qt refl) changes (record { h = h; c = d; ish = ish; isc = refl; way = Queue.walk-pv (queueOf g) (s .links) (live g s v t) (v .queue) d dl dh h low w; ground = gr; over = Queue.clean-pv (queueOf g) (s .links) (live g s v t) (v .queue) d dl dh h (omega arith) ov })
+          main dl dh (qt refl) changes (record {
+            h =
+                h;
+            c = d;
+            ish = ish;
+            isc = refl;
+            way = Queue.walk-pv (queueOf g) (s .links) (live g s v t) (v .queue) d dl
+                dh h low w;
+            ground = gr;
+            over = Queue.clean-pv (queueOf g) (s .links) (live g s v t) (v .queue) d dl dh h (omega arith) ov;
+          })
       go alone ish low w gr ov qt =
           let dl : g .taken t .beg ≤ d = omega arith in
           let dh : suc d < g .taken t .end = omega arith in

@@ -95,7 +95,10 @@ module _ (m : Machine) (ok : Ok m) where
         rw z (ap (λ x. listed (x ∷ [])) (node-is tail (g .log (part .lo)) (sym (w .ist))))
 
     is-waking : (current : NodeNumber) → WakeAt part links (current .0) → Is (backFrom (m .count) m current)
-    is-waking current w = goes-back m part mine-live mine-range (part .lo) (omega arith) (w .mine) (part .hi - part .lo) (m .count) (part .lo) current (few-tickets m part mine-live mine-range (omega (arith, w .some))) (omega arith) (omega (arith, w .some)) (begins (part .hi - part .lo) (omega (arith, w .some)))
+    is-waking current w =
+        goes-back m part mine-live mine-range (part .lo) (omega arith) (w .mine) (part .hi - part .lo) (m .count) (part .lo) current
+        (few-tickets m part mine-live mine-range (omega (arith, w .some))) (omega arith) (omega (arith, w .some))
+        (begins (part .hi - part .lo) (omega (arith, w .some)))
       where
         begins : (k : ℕ) → 0 < k → Begins m part mine-live mine-range k (part .lo) current
         begins zero l = absurd (omega arith)

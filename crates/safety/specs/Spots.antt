@@ -108,7 +108,9 @@ module _ (m : Machine) (ok : Ok m) where
   found k e (inr x) = by (isAside (threadAt m (x .0) .place)) refl
     where
       there : In k (heldIn m (threadAt m (x .0) .place))
-      there = subst (In k) (sym (held-is m ok (x .0))) (up-in (g .log) (g .taken (x .0) .beg) (g .taken (x .0) .end - g .taken (x .0) .beg) (g .tk (k .0)) k (x .1) (omega (arith, x .1, x .2)) (node-is k (g .log (g .tk (k .0))) (sym e)))
+      there =
+          subst (In k) (sym (held-is m ok (x .0)))
+          (up-in (g .log) (g .taken (x .0) .beg) (g .taken (x .0) .end - g .taken (x .0) .beg) (g .tk (k .0)) k (x .1) (omega (arith, x .1, x .2)) (node-is k (g .log (g .tk (k .0))) (sym e)))
 
       by : (b : Bool) → isAside (threadAt m (x .0) .place) ≡ b → (s : Spot) × At m k s
       by true z = (aside (x .0), subst (λ a. In k (pick a (heldIn m (threadAt m (x .0) .place)) (listed []))) (sym z) there)
