@@ -1,16 +1,15 @@
 -- Laws of a line and of a number's digits: text after text; a line's text is what was put in it, where it fits. Assumes nothing.
-use Prim.Native.Nat.{ℕ, zero, suc, _+_, _-_, _*_, _/_, _%_, _^_, _≤_, _<_}
-use mathlib.Core.Bool.{Bool, true}
+use Prim.Native.Nat.{ℕ, zero, suc, _+_, _-_, _/_, _%_, _≤_, _<_}
 use mathlib.Core.Path.{_≡_, refl, sym, ap, _∙_}
-use mathlib.Core.List.{List, [], _∷_, _++_, append-assoc, append-nil}
+use mathlib.Core.List.{List, [], _∷_, _++_}
 use native.Mathlib.Nat.{suc-ne-zero}
 use native.Mathlib.Omega.{arith}
 use borrow.Author.Tests.{lt-ltb, le-ltb}
-use lib.ListN.{length, take, getD, set, replicate, length-set}
-use lib.Seq.{take-suc, take-suc-set}
+use lib.ListN.{length, take, getD}
+use lib.Seq.{take-suc}
 use Rattle.word.specs.Cases.{pick-yes, pick-no}
 use Rattle.print.specs.Text.{decimalBy}
-use Rattle.print.specs.Line.{lineWidth, blankOf, putOf, putAll, shown}
+use Rattle.print.specs.Line.{putOf, putAll}
 use Rattle.print.specs.declared.line.Line.{Line}
 
 -- ── text after text ──

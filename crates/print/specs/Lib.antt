@@ -4,3 +4,5 @@ pub mod Replayed
 pub mod Page
 pub mod PageLaws
 pub mod Laws
+pub mod Shown
+pub mod Determined
