@@ -9,6 +9,7 @@ pub mod ListMoves
 pub mod Members
 pub mod Registrations
 pub mod Counts
+pub mod Registered
 pub mod Spots
 pub mod Replays
 pub mod Theorems

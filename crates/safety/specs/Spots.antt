@@ -24,6 +24,7 @@ use Rattle.safety.specs.Lists.{heldIn}
 use Rattle.safety.specs.Intervals.{node-is}
 use Rattle.safety.specs.Held.{listing-is, held-is}
 use Rattle.safety.specs.Members.{Among, in-down, in-up, down-in, up-in}
+use Rattle.safety.specs.Registered.{registered-same}
 use Rattle.safety.specs.Statements.{Waiter, Waits, Spot, queue, aside, waker, In, At, OneSpot}
 
 -- a node that waits is a waiter's
@@ -33,7 +34,7 @@ waiter-is m ok k w = (
   ap node (sym (w .node) ∙ sym (add-one (w .thread))),
   record {
     below = inside (m .count) (lockOf m) (ok .ghost) (ok .inv) (w .thread) (λ a. a .registered) refl (w .registered);
-    registered = w .registered;
+    registered = sym (registered-same (threadAt m (w .thread) .place)) ∙ w .registered;
     uncompleted = ap (λ j. lockOf m .nd j .completed) (w .node) ∙ w .open-node;
   },
 )
@@ -120,7 +121,7 @@ module _ (m : Machine) (ok : Ok m) where
   one-spot t w = by (found (nodeOf (thread t)) (covered .0) (covered .1))
     where
       waits : wait (t + 1) ≡ true
-      waits = subst (λ j. wait j ≡ true) (sym (add-one t)) (rw (w .registered, w .uncompleted) refl)
+      waits = subst (λ j. wait j ≡ true) (sym (add-one t)) (rw (registered-same (threadAt m t .place) ∙ w .registered, w .uncompleted) refl)
 
       covered : (g .log (g .tk (t + 1)) ≡ t + 1) × Somewhere g (g .tk (t + 1))
       covered = ok .inv .queue .parts .cover (t + 1) waits

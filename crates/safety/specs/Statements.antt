@@ -30,7 +30,7 @@ use Rattle.schedule.specs.declared.whole.FileStop.the-variants.{Refused as File
 use Rattle.listing.specs.Listing.{Listed, lost, listed, nodeBy, listedOf, waitersOf}
 use Rattle.listing.specs.ReaderCount.{oldest, readersOf}
 use Rattle.queue.specs.Updates.{upd}
-use Rattle.invariant.specs.Table.{about}
+use Rattle.standing.specs.Part.{partOf, registeredOf}
 use Rattle.safety.specs.Lists.{queueIn, asideIn, wakesIn}
 
 -- ── runs ──
@@ -190,7 +190,7 @@ ListsMove = (n : ℕ) (es : List Event) (e : Event) → Move (reached n es) (aft
 -- a registered thread whose node is not completed
 pub record Waiter (m : Machine) (t : ℕ) : Type 0 where
   pub below : t < m .count
-  pub registered : about (threadAt m t .place) .registered ≡ true
+  pub registered : registeredOf (partOf (threadAt m t .place)) ≡ true
   pub uncompleted : nodeAt m t .completed ≡ false
 
 -- the node of one
