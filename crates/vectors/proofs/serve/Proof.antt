@@ -1,0 +1,81 @@
+-- Assumes nothing.
+use mathlib.Core.Path.{_≡_, refl}
+use Prim.Native.Nat.{_-_}
+use native.Mathlib.Omega.{arith}
+use lib.ListN.{length}
+use borrow.Author.Needs.{needs}
+use Rattle.vectors.proofs.serve.Statement.{statement}
+use Rattle.vectors.proofs.serve.Tie as tie
+
+abbrev Inv-loop : tie.InvT-loop
+Inv-loop input out₀ m₀ at₀ k₀ out m at k = length out ≡ length out₀
+
+abbrev μ-loop : tie.MeasureT-loop
+μ-loop input out₀ m₀ at₀ k₀ out m at k = length input - k
+
+loop-holds : tie.Need-loop-holds Inv-loop μ-loop
+loop-holds c = refl
+
+mul-from : tie.Need-mul-from Inv-loop μ-loop
+mul-from c = omega arith
+
+shared-slice-read-obey : tie.Need-shared-slice-read-obey Inv-loop μ-loop
+shared-slice-read-obey c = omega arith
+
+add-obey : tie.Need-add-obey Inv-loop μ-loop
+add-obey c = omega arith
+
+shared-slice-read-obey-2 : tie.Need-shared-slice-read-obey-2 Inv-loop μ-loop
+shared-slice-read-obey-2 c = omega arith
+
+add-t11 : tie.Need-add-t11 Inv-loop μ-loop
+add-t11 c = omega arith
+
+shared-slice-read-t18 : tie.Need-shared-slice-read-t18 Inv-loop μ-loop
+shared-slice-read-t18 c = omega arith
+
+obey-requires : tie.Need-obey-requires Inv-loop μ-loop
+obey-requires c κs = tt
+
+with-room-requires : tie.Need-with-room-requires Inv-loop μ-loop
+with-room-requires c κs = tt
+
+add-k : tie.Need-add-k Inv-loop μ-loop
+add-k c = omega arith
+
+loop-less : tie.Need-loop-less Inv-loop μ-loop
+loop-less c = omega arith
+
+loop-again : tie.Need-loop-again Inv-loop μ-loop
+loop-again c = omega arith
+
+write-out-requires : tie.Need-write-out-requires Inv-loop μ-loop
+write-out-requires c κs = tt
+
+same-length : tie.Need-same-length Inv-loop μ-loop
+same-length c = omega arith
+
+returns : tie.Need-returns Inv-loop μ-loop
+returns c = tt
+
+pub serve-spec : {M : Type 1} → statement M
+serve-spec =
+    tie.close
+    (tie.spec
+    Inv-loop
+    μ-loop
+    loop-holds
+    mul-from
+    shared-slice-read-obey
+    add-obey
+    shared-slice-read-obey-2
+    add-t11
+    shared-slice-read-t18
+    obey-requires
+    with-room-requires
+    add-k
+    loop-less
+    loop-again
+    write-out-requires
+    same-length
+    returns)

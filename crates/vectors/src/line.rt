@@ -1,0 +1,197 @@
+// The line of a state: the reply and the word, then for each thread its token, holding and next access, and its node.
+ghost use Prim.Native.Nat.{_≤_};
+ghost use Rattle.state.specs.Machine.{threadLimit};
+use crate::carried::Carried;
+use crate::carried::at_place;
+use crate::put;
+use state::Access;
+use state::Answer;
+use state::Holding;
+use state::Kind;
+use state::Location;
+use state::Machine;
+use state::Node;
+use state::Outcome;
+use state::Reply;
+use state::THREADS;
+use state::Thread;
+use word::Owner;
+use word::ThreadNumber;
+
+fn put_answer(out: &mut [u8], at: usize, answer: Answer) -> usize {
+    match answer {
+        Answer::Begun => put::text(out, at, b"begun"),
+        Answer::Went => put::text(out, at, b"went"),
+        Answer::Done => put::text(out, at, b"done"),
+        Answer::Yes => put::text(out, at, b"yes"),
+        Answer::No => put::text(out, at, b"no"),
+    }
+}
+
+fn put_woken(out: &mut [u8], at: usize, woken: Owner) -> usize {
+    match woken {
+        Owner::Nobody => put::text(out, at, b" -"),
+        Owner::Thread(t) => put::number(out, at, t.0 as u64),
+    }
+}
+
+fn put_accepted(out: &mut [u8], at: usize, answer: Answer, woken: Owner) -> usize {
+    let answered = put_answer(out, at, answer);
+    put_woken(out, answered, woken)
+}
+
+fn put_refused(out: &mut [u8], at: usize, number: u8) -> usize {
+    let refused = put::text(out, at, b"refused");
+    put::number(out, refused, number as u64)
+}
+
+fn put_reply(out: &mut [u8], at: usize, reply: Reply) -> usize {
+    match reply {
+        Reply::Accepted { answer, woken } => put_accepted(out, at, answer, woken),
+        Reply::Refused(refusal) => put_refused(out, at, refusal.number()),
+    }
+}
+
+fn kind_number(kind: Kind) -> u64 {
+    match kind {
+        Kind::Nothing => 0,
+        Kind::Load => 1,
+        Kind::Store => 2,
+        Kind::WeakCompare => 3,
+        Kind::StrongCompare => 4,
+        Kind::FetchOr => 5,
+        Kind::Subtract => 6,
+        Kind::Complete => 7,
+        Kind::Park => 8,
+    }
+}
+
+// What a weak compare expects, and what a store stores.
+fn operand(kind: Kind, c: Carried) -> u64 {
+    match kind {
+        Kind::WeakCompare => c.seen,
+        Kind::Store => c.first,
+        Kind::Nothing => 0,
+        Kind::Load => 0,
+        Kind::StrongCompare => 0,
+        Kind::FetchOr => 0,
+        Kind::Subtract => 0,
+        Kind::Complete => 0,
+        Kind::Park => 0,
+    }
+}
+
+fn put_two(out: &mut [u8], at: usize, a: u64, b: u64) -> usize {
+    let first = put::number(out, at, a);
+    put::number(out, first, b)
+}
+
+fn put_location(out: &mut [u8], at: usize, location: Location) -> usize {
+    match location {
+        Location::Nowhere => put_two(out, at, 0, 0),
+        Location::Word => put_two(out, at, 1, 0),
+        Location::Next(n) => put_two(out, at, 2, n.0),
+        Location::Prev(n) => put_two(out, at, 3, n.0),
+        Location::Tail(n) => put_two(out, at, 4, n.0),
+        Location::Completed(n) => put_two(out, at, 5, n.0),
+        Location::Token(t) => put_two(out, at, 6, t.0 as u64),
+    }
+}
+
+fn put_access(out: &mut [u8], at: usize, access: Access, c: Carried) -> usize {
+    let kind = access.kind;
+    let location = access.location;
+    let placed = put_two(out, at, c.place, kind_number(kind));
+    let located = put_location(out, placed, location);
+    put::number(out, located, operand(kind, c))
+}
+
+fn put_node(out: &mut [u8], at: usize, n: Node) -> usize {
+    let next = put::number(out, at, n.next.0);
+    let links = put_two(out, next, n.prev.0, n.tail.0);
+    let writer = put::flag(out, links, n.writer);
+    put::flag(out, writer, n.completed)
+}
+
+fn holding_number(holding: Holding) -> u64 {
+    match holding {
+        Holding::Nothing => 0,
+        Holding::Read => 1,
+        Holding::Write => 2,
+    }
+}
+
+// The node, where it is filled; its owner is at RegisterCas or waits.
+fn put_filled(out: &mut [u8], at: usize, c: Carried, n: Node) -> usize {
+    if c.filled {
+        return put_node(out, at, n);
+    }
+    at
+}
+
+fn put_carried(out: &mut [u8], at: usize, c: Carried) -> usize {
+    let opened = put::text(out, at, b" :");
+    let role = put_two(out, opened, c.role, c.reloads);
+    let seen = put::number(out, role, c.seen);
+    put_two(out, seen, c.first, c.second)
+}
+
+fn put_thread(
+    out: &mut [u8],
+    at: usize,
+    me: ThreadNumber,
+    t: Thread,
+    n: Node,
+    inner: bool,
+) -> usize {
+    let place = t.place;
+    let holding = t.holding;
+    let c = at_place(place);
+    let opened = put::text(out, at, b" |");
+    let tokened = put::flag(out, opened, t.token);
+    let held = put::number(out, tokened, holding_number(holding));
+    let accessed = put_access(out, held, Access::of(me, place), c);
+    let noded = put_filled(out, accessed, c, n);
+    if inner {
+        return put_carried(out, noded, c);
+    }
+    noded
+}
+
+fn limited(count: u8) -> usize
+    ensures { λ r. ⌜ r ≤ threadLimit ⌝ }
+{
+    let n = count as usize;
+    if n < THREADS {
+        return n;
+    }
+    THREADS
+}
+
+fn put_threads(out: &mut [u8], at: usize, m: Machine, inner: bool) -> usize {
+    let n = limited(m.count);
+    let mut to = at;
+    let mut i: usize = 0;
+    while i < n {
+        to = put_thread(
+            out,
+            to,
+            ThreadNumber(i as u8),
+            m.threads[i],
+            m.nodes[i],
+            inner,
+        );
+        i = i + 1;
+    }
+    to
+}
+
+// With `inner`, also what each thread's place carries, which queue.rs keeps in its locals.
+pub(crate) fn put_state(out: &mut [u8], at: usize, o: Outcome, inner: bool) -> usize {
+    let m = o.machine;
+    let reply = o.reply;
+    let replied = put_reply(out, at, reply);
+    let worded = put::number(out, replied, m.word.0);
+    let threaded = put_threads(out, worded, m, inner);
+    put::byte(out, threaded, b'\n')
+}
