@@ -56,8 +56,8 @@ fn compress(state: &mut [u32; 8], block: &[u8], keys: &[u32]) {
             .wrapping_add((e & f) ^ (!e & g))
             .wrapping_add(keys[i])
             .wrapping_add(w[i]);
-        let second = (a.rotate_right(2) ^ a.rotate_right(13) ^ a.rotate_right(22))
-            .wrapping_add((a & b) ^ (a & c) ^ (b & c));
+        let second =
+            (a.rotate_right(2) ^ a.rotate_right(13) ^ a.rotate_right(22)).wrapping_add((a & b) ^ (a & c) ^ (b & c));
         s.rotate_right(1);
         s[0] = first.wrapping_add(second);
         s[4] = s[4].wrapping_add(first);

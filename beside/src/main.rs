@@ -16,14 +16,19 @@ mod thread;
 include!(concat!(env!("OUT_DIR"), "/mount.rs"));
 
 mod caller;
+mod compare;
 mod context;
 mod front;
+mod met;
 mod nodes;
 mod places;
 mod port;
 mod random;
+mod replay;
+mod schedule;
 mod stage;
 mod state;
+mod walks;
 
 fn main() {
     stage::set_up();
@@ -31,34 +36,17 @@ fn main() {
     let eye = state::Eye::new(nodes::Nodes::found(), places::Places::read(&text));
     println!("{:?}", eye.nodes);
     let words: Vec<String> = std::env::var("PORT").unwrap().split(' ').map(String::from).collect();
-    let mut port = port::Port::start(&words);
-    let mut rng = random::Random(1);
-    let (mut a, mut b) = (String::new(), String::new());
-    let mut n = 0u64;
+    let mut c = compare::Comparison::new(&eye, port::Port::start(&words));
     let began = std::time::Instant::now();
-    for _ in 0..40 {
-        let count = 1 + rng.below(8) as usize;
-        let mut f = front::Front::new(count);
-        port.ask(port::Ask::Fresh, count as u8, 0);
-        let mut lines = Vec::new();
-        for _ in 0..2500 {
-            let code = [0, 1, 2, 3, 4, 5, 6, 16, 16, 16, 16, 16, 16, 16, 17][rng.below(15) as usize];
-            let t = rng.below(count as u64) as u8;
-            let reply = f.event(code, t);
-            eye.line(&f, reply, &mut a);
-            lines.push((code, t, a.clone()));
-            port.ask(port::Ask::Show, code, t);
-        }
-        port.send();
-        for (k, (code, t, l)) in lines.iter().enumerate() {
-            port.line(&mut b);
-            n += 1;
-            if &b != l {
-                println!("differ at {k} {code} {t}\n{l}\n{b}");
-                return;
-            }
-        }
+    let n = walks::run(&mut c, 1, 1_000_000);
+    println!("{n} schedules {} events {} differences {:?}", c.compared, c.differences, began.elapsed());
+    if let Some(d) = &c.first {
+        println!("{}\n{}\n{}", d.schedule.spelled(), d.rust, d.port);
     }
-    println!("{n} events {:?}", began.elapsed());
-    port.end();
+    for (b, n) in &c.met.branches {
+        println!("{n:9} {b}");
+    }
+    println!("{:?}", c.met.refusals);
+    c.port.end();
+    print!("{}", replay::printed(&eye, &[1, 0, 0, 0, 5, 1, 3, 0, 0x10, 0], true));
 }

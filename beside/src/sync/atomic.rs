@@ -87,13 +87,7 @@ impl<T> Atomic<*mut T> {
     }
 
     #[track_caller]
-    pub fn compare_exchange(
-        &self,
-        current: *mut T,
-        new: *mut T,
-        _: Ordering,
-        _: Ordering,
-    ) -> Result<*mut T, *mut T> {
+    pub fn compare_exchange(&self, current: *mut T, new: *mut T, _: Ordering, _: Ordering) -> Result<*mut T, *mut T> {
         self.turn(Kind::StrongCompare, current.addr());
         self.exchange(current, new, false)
     }

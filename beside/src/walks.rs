@@ -1,0 +1,105 @@
+//! Random schedules, biased to what is rare: contention, downgrades, tries, failed compares, waits that end for no cause.
+
+use crate::compare::Comparison;
+use crate::front::{FAIL, Front, Holding, STEP};
+use crate::random::Random;
+use crate::schedule::LIMIT;
+use crate::stage::{self, Kind, THREADS};
+
+/// How one schedule leans; each is "once in so many".
+struct Lean {
+    stay: u64,
+    spurious: u64,
+    writes: u64,
+    tries: u64,
+    downgrades: u64,
+    strange: u64,
+}
+
+impl Lean {
+    fn new(random: &mut Random) -> Lean {
+        let mut pick = |choices: &[u64]| choices[random.below(choices.len() as u64) as usize];
+        Lean {
+            stay: pick(&[1, 2, 2, 8]),
+            spurious: pick(&[3, 10, 100]),
+            writes: pick(&[1, 2, 2, 5]),
+            tries: pick(&[2, 8, 30]),
+            downgrades: pick(&[1, 2, 4]),
+            strange: pick(&[20, 200, 2000]),
+        }
+    }
+
+    fn begin(&self, random: &mut Random, holding: Holding) -> u8 {
+        match holding {
+            Holding::Read => 4,
+            Holding::Write if random.once_in(self.downgrades) => 6,
+            Holding::Write => 5,
+            Holding::Nothing => random.once_in(self.writes) as u8 + 2 * random.once_in(self.tries) as u8,
+        }
+    }
+
+    fn code(&self, random: &mut Random, front: &Front, thread: usize) -> u8 {
+        let Some(pending) = stage::pending(thread) else { return self.begin(random, front.holding(thread)) };
+        match pending.access.kind {
+            Kind::WeakCompare if random.once_in(self.spurious) => FAIL,
+            Kind::Park if !stage::token(thread) && random.once_in(self.spurious) => FAIL,
+            _ => STEP,
+        }
+    }
+}
+
+/// Is the thread asleep with nothing that wakes it? A step would be refused.
+fn asleep(thread: usize) -> bool {
+    stage::pending(thread).is_some_and(|p| p.access.kind == Kind::Park) && !stage::token(thread)
+}
+
+fn strange(random: &mut Random) -> (u8, u8) {
+    let code =
+        if random.once_in(3) { random.next() as u8 } else { [0, 1, 2, 3, 4, 5, 6, 16, 17][random.below(9) as usize] };
+    (code, random.below(THREADS as u64 + 2) as u8)
+}
+
+/// One schedule on both sides: `count` threads, `length` events.
+fn walk(compared: &mut Comparison, random: &mut Random, count: u8, length: usize) {
+    let lean = Lean::new(random);
+    let mut thread = 0;
+    compared.fresh(count);
+    for _ in 0..length {
+        if !random.once_in(lean.stay) || asleep(thread) {
+            thread = random.below(count as u64) as usize;
+        }
+        let (code, at) = if random.once_in(lean.strange) {
+            strange(random)
+        } else {
+            // one asleep is passed over, most of the time
+            for _ in 0..8 {
+                if asleep(thread) {
+                    thread = random.below(count as u64) as usize;
+                }
+            }
+            (lean.code(random, &compared.front, thread), thread as u8)
+        };
+        compared.event(code, at);
+    }
+}
+
+/// From 20 events to as many as a file may have, short ones more often.
+fn length(random: &mut Random) -> usize {
+    let longest = [50, 200, 1_000, 5_000, LIMIT as u64][random.below(5) as usize];
+    20 + random.below(longest - 19) as usize
+}
+
+/// Random schedules until so many events are compared.
+pub fn run(compared: &mut Comparison, seed: u64, events: u64) -> u64 {
+    let mut random = Random(seed);
+    let (mut schedules, mut done) = (0, 0);
+    while done < events {
+        let count = 1 + random.below(THREADS as u64) as u8;
+        let length = length(&mut random);
+        walk(compared, &mut random, count, length);
+        schedules += 1;
+        done += length as u64;
+    }
+    compared.settle();
+    schedules
+}
