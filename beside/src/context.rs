@@ -15,7 +15,7 @@ pub struct Context {
     flags: usize,
     link: *mut Context,
     room: Room,
-    registers: MaybeUninit<[u8; 8192]>,
+    registers: MaybeUninit<[u8; 5120]>,
 }
 
 unsafe extern "C" {

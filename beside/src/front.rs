@@ -33,6 +33,7 @@ struct Record {
     holding: Holding,
 }
 
+#[derive(Clone)]
 pub struct Front {
     count: usize,
     records: [Record; stage::THREADS],

@@ -18,6 +18,7 @@ include!(concat!(env!("OUT_DIR"), "/mount.rs"));
 mod caller;
 mod compare;
 mod context;
+mod explore;
 mod front;
 mod met;
 mod nodes;
@@ -38,7 +39,21 @@ fn main() {
     let words: Vec<String> = std::env::var("PORT").unwrap().split(' ').map(String::from).collect();
     let mut c = compare::Comparison::new(&eye, port::Port::start(&words));
     let began = std::time::Instant::now();
-    let n = walks::run(&mut c, 1, 1_000_000);
+    let f = explore::run(
+        &mut c,
+        std::env::args().nth(1).unwrap().parse().unwrap(),
+        std::env::args().nth(2).is_some(),
+        20_000_000,
+    );
+    println!(
+        "{} machines {} deep {} events {} differences {:?}",
+        f.machines,
+        f.deepest,
+        c.compared,
+        c.differences,
+        began.elapsed()
+    );
+    let n = walks::run(&mut c, 1, 1_00);
     println!("{n} schedules {} events {} differences {:?}", c.compared, c.differences, began.elapsed());
     if let Some(d) = &c.first {
         println!("{}\n{}\n{}", d.schedule.spelled(), d.rust, d.port);

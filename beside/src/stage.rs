@@ -18,6 +18,9 @@ pub const THREADS: usize = 8;
 /// A stack: the call, and room to look a line up in.
 const STACK: usize = 1 << 20;
 
+/// More than the frames take that lie below a thread's `give_way` while it waits.
+const BELOW: usize = 1024;
+
 #[derive(Clone, Copy, PartialEq, Eq, Debug)]
 pub enum Kind {
     Load = 1,
@@ -74,11 +77,27 @@ pub struct Happened {
 
 struct Actor {
     context: Box<Context>,
+    now: Now,
+    /// no byte of the stack below this one is in use while the thread waits
+    low: usize,
+}
+
+#[derive(Clone, Copy)]
+struct Now {
     call: Call,
     pending: Option<Pending>,
     ended: Option<Ended>,
     registered: bool,
     token: bool,
+}
+
+/// A thread outside of any call.
+const IDLE: Now = Now { call: Call::Read, pending: None, ended: None, registered: false, token: false };
+
+/// All that a run has come to, to go on from again: the word, and each thread with its registers and its stack.
+pub struct Saved {
+    word: usize,
+    actors: Vec<(Now, Context, Vec<u8>)>,
 }
 
 struct Stage {
@@ -115,14 +134,8 @@ pub fn set_up() {
     let stacks = unsafe { alloc::alloc_zeroed(layout) };
     assert!(!stacks.is_null(), "room for the stacks");
     stacks.expose_provenance();
-    let actors = std::array::from_fn(|_| Actor {
-        context: Context::new(),
-        call: Call::Read,
-        pending: None,
-        ended: None,
-        registered: false,
-        token: false,
-    });
+    let end = |thread: usize| stacks.addr() + STACK * (thread + 1);
+    let actors = std::array::from_fn(|thread| Actor { context: Context::new(), now: IDLE, low: end(thread) });
     let made = Stage {
         main: Context::new(),
         lock: RwLock::new(),
@@ -152,12 +165,15 @@ pub fn turn(access: Access) -> bool {
     let me = running();
     assert!(!stage().unpark_due, "the unpark follows the store of completed with no access between them");
     let line = stage().lines.of(Location::caller().line(), &stack_of(me));
-    actor(me).pending = Some(Pending { access, line });
+    actor(me).now.pending = Some(Pending { access, line });
     give_way(me);
     stage().fails
 }
 
+#[inline(never)]
 fn give_way(me: usize) {
+    let here = 0u8;
+    actor(me).low = (&raw const here).addr() - BELOW;
     let (own, main): (*mut Context, *const Context) = (&mut *actor(me).context, &*stage().main);
     unsafe { context::switch(own, main) };
 }
@@ -165,7 +181,7 @@ fn give_way(me: usize) {
 /// Is a store to this address the fill of the thread's own node, before it is registered? Then it is local code.
 pub fn fills(address: usize) -> bool {
     let me = running();
-    if actor(me).registered || !stack_of(me).contains(&address) {
+    if actor(me).now.registered || !stack_of(me).contains(&address) {
         return false;
     }
     stage().filled = address;
@@ -176,7 +192,7 @@ pub fn compared(succeeds: bool, new: usize) {
     stage().happened.compared = Some(succeeds);
     let me = running();
     if succeeds && stack_of(me).contains(&new) {
-        actor(me).registered = true;
+        actor(me).now.registered = true;
     }
 }
 
@@ -187,7 +203,7 @@ pub fn subtracted() {
 /// A waiter that finds completed set leaves its wait.
 pub fn loaded_flag(completed: bool) {
     if completed {
-        actor(running()).registered = false;
+        actor(running()).now.registered = false;
     }
 }
 
@@ -199,12 +215,12 @@ pub fn set_token(thread: usize) {
     assert!(stage().unpark_due, "an unpark follows the store of completed");
     stage().unpark_due = false;
     stage().happened.woken = Some(thread);
-    actor(thread).token = true;
+    actor(thread).now.token = true;
 }
 
 pub fn take_token(thread: usize) {
-    assert!(actor(thread).token, "park returns with a token");
-    actor(thread).token = false;
+    assert!(actor(thread).now.token, "park returns with a token");
+    actor(thread).now.token = false;
 }
 
 // ---- for the scheduler
@@ -214,18 +230,15 @@ pub fn reset() {
     stage().lock = RwLock::new();
     stage().unpark_due = false;
     for actor in &mut stage().actors {
-        actor.pending = None;
-        actor.ended = None;
-        actor.registered = false;
-        actor.token = false;
+        actor.now = IDLE;
     }
 }
 
 pub fn begin(thread: usize, call: Call) {
     let (stack, pad) = (stack_of(thread), stage().pads[(call == Call::Write) as usize]);
     let bytes = std::ptr::with_exposed_provenance_mut(stack.start);
-    actor(thread).call = call;
-    actor(thread).ended = None;
+    actor(thread).now.call = call;
+    actor(thread).now.ended = None;
     unsafe { actor(thread).context.start(enter, bytes, STACK - pad) };
     run(thread);
 }
@@ -241,15 +254,15 @@ pub fn step(thread: usize, fails: bool) -> Happened {
 
 fn run(thread: usize) {
     stage().running = thread;
-    actor(thread).pending = None;
+    actor(thread).now.pending = None;
     let (main, other): (*mut Context, *const Context) = (&mut *stage().main, &*actor(thread).context);
     unsafe { context::switch(main, other) };
 }
 
 extern "C" fn enter() {
     let me = running();
-    let ended = catch_unwind(AssertUnwindSafe(|| perform(actor(me).call)));
-    actor(me).ended = Some(ended.map_or(Ended::Panicked, Ended::Returned));
+    let ended = catch_unwind(AssertUnwindSafe(|| perform(actor(me).now.call)));
+    actor(me).now.ended = Some(ended.map_or(Ended::Panicked, Ended::Returned));
     give_way(me);
     unreachable!("a call that ended is not gone on with");
 }
@@ -270,22 +283,46 @@ fn perform(call: Call) -> bool {
     true
 }
 
+fn memory_of(thread: usize) -> &'static mut [u8] {
+    let (low, end) = (actor(thread).low, stack_of(thread).end);
+    unsafe { std::slice::from_raw_parts_mut(std::ptr::with_exposed_provenance_mut(low), end - low) }
+}
+
+/// The first `count` threads and the word, as they are.
+pub fn save(count: usize) -> Saved {
+    let actor =
+        |thread| (actor(thread).now, unsafe { (&raw const *actor(thread).context).read() }, memory_of(thread).to_vec());
+    Saved { word: word(), actors: (0..count).map(actor).collect() }
+}
+
+/// Back to where `save` was called.
+pub fn restore(saved: &Saved) {
+    unsafe { (&raw mut stage().lock).cast::<usize>().write(saved.word) };
+    stage().unpark_due = false;
+    for (thread, (now, context, bytes)) in saved.actors.iter().enumerate() {
+        actor(thread).now = *now;
+        actor(thread).low = stack_of(thread).end - bytes.len();
+        memory_of(thread).copy_from_slice(bytes);
+        unsafe { (&raw mut *actor(thread).context).copy_from_nonoverlapping(context, 1) };
+    }
+}
+
 // ---- what stands on the stage
 
 pub fn pending(thread: usize) -> Option<Pending> {
-    actor(thread).pending
+    actor(thread).now.pending
 }
 
 pub fn ended(thread: usize) -> Option<Ended> {
-    actor(thread).ended
+    actor(thread).now.ended
 }
 
 pub fn registered(thread: usize) -> bool {
-    actor(thread).registered
+    actor(thread).now.registered
 }
 
 pub fn token(thread: usize) -> bool {
-    actor(thread).token
+    actor(thread).now.token
 }
 
 pub fn word_address() -> usize {
