@@ -1,10 +1,10 @@
 //! The comparison: events go to both sides, and the whole state after each is compared as text. The port answers in
 //! batches, so that both sides work at the same time.
 
-use crate::front::{FAIL, Front, Reply, STEP};
-use crate::met::{Before, Met};
+use crate::front::{Front, Reply};
 use crate::port::{Ask, Port};
 use crate::schedule::Schedule;
+use crate::side::{Runs, Side};
 use crate::state::Eye;
 use std::collections::VecDeque;
 
@@ -27,12 +27,10 @@ struct Batch {
 }
 
 pub struct Comparison<'a> {
-    pub eye: &'a Eye,
+    pub side: Side<'a>,
     pub port: Port,
-    pub front: Front,
     batch: Batch,
     waiting: VecDeque<Batch>,
-    pub met: Met,
     pub compared: u64,
     pub differences: u64,
     pub first: Option<Difference>,
@@ -41,57 +39,14 @@ pub struct Comparison<'a> {
 impl<'a> Comparison<'a> {
     pub fn new(eye: &'a Eye, port: Port) -> Comparison<'a> {
         Comparison {
-            eye,
+            side: Side::new(eye),
             port,
-            front: Front::new(1),
             batch: Batch::default(),
             waiting: VecDeque::new(),
-            met: Met::default(),
             compared: 0,
             differences: 0,
             first: None,
         }
-    }
-
-    /// A fresh machine on both sides.
-    pub fn fresh(&mut self, count: u8) {
-        if self.batch.lines.len() >= BATCH {
-            self.hand_over();
-        }
-        self.front = Front::new(count as usize);
-        self.port.ask(Ask::Fresh, count, 0);
-        self.batch.schedules.push(Schedule { count, events: Vec::new() });
-    }
-
-    /// An event on the Rust alone, counted; the Rust's line is left in `line`.
-    pub fn rust(&mut self, code: u8, thread: u8, line: &mut String) -> Reply {
-        let before = match code {
-            STEP | FAIL if (thread as usize) < self.front.count() => Before::of(self.eye, &self.front, thread as usize),
-            _ => None,
-        };
-        let reply = self.front.event(code, thread);
-        match (reply, before) {
-            (Reply::Refused(number), _) => self.met.refused(number),
-            (_, Some(before)) => {
-                self.met.stepped(self.eye, &self.front, &before, thread as usize, code == FAIL, reply);
-            }
-            _ => {}
-        }
-        self.eye.line(&self.front, reply, line);
-        reply
-    }
-
-    /// An event on both sides.
-    pub fn event(&mut self, code: u8, thread: u8) -> Reply {
-        let mut line = String::new();
-        let reply = self.rust(code, thread, &mut line);
-        self.port.ask(Ask::Show, code, thread);
-        let schedule = self.batch.schedules.len() - 1;
-        let events = &mut self.batch.schedules[schedule].events;
-        events.push((code, thread));
-        let run = events.len();
-        self.batch.lines.push((schedule, run, line));
-        reply
     }
 
     fn hand_over(&mut self) {
@@ -133,5 +88,31 @@ impl<'a> Comparison<'a> {
         while !self.waiting.is_empty() {
             self.settle_one();
         }
+    }
+}
+
+impl Runs for Comparison<'_> {
+    fn fresh(&mut self, count: u8) {
+        if self.batch.lines.len() >= BATCH {
+            self.hand_over();
+        }
+        self.side.fresh(count);
+        self.port.ask(Ask::Fresh, count, 0);
+        self.batch.schedules.push(Schedule { count, events: Vec::new() });
+    }
+
+    fn event(&mut self, code: u8, thread: u8) -> Reply {
+        let reply = self.side.event(code, thread);
+        self.port.ask(Ask::Show, code, thread);
+        let schedule = self.batch.schedules.len() - 1;
+        let events = &mut self.batch.schedules[schedule].events;
+        events.push((code, thread));
+        let run = events.len();
+        self.batch.lines.push((schedule, run, self.side.line.clone()));
+        reply
+    }
+
+    fn front(&self) -> &Front {
+        &self.side.front
     }
 }

@@ -5,6 +5,7 @@ use crate::compare::Comparison;
 use crate::front::{Front, STEP};
 use crate::port::Ask;
 use crate::schedule::Schedule;
+use crate::side::Runs;
 use crate::stage::{self, Saved, THREADS};
 use std::collections::HashSet;
 
@@ -90,7 +91,8 @@ impl Machine {
         self.parts.iter().enumerate().flat_map(of).collect()
     }
 
-    /// The smallest text of the machine under every renaming of its threads.
+    /// The smallest text of the machine under every renaming of its threads. A node's links count while they may be read:
+    /// from its registration to its completion.
     fn key(&self, named: &Named, orders: &[Vec<u8>]) -> Vec<u8> {
         orders.iter().map(|order| self.renamed(named, order)).min().expect("there is an order")
     }
@@ -105,11 +107,13 @@ impl Machine {
         let mut key = vec![word(self.word)];
         for thread in places {
             let p = &self.parts[thread];
-            let [next, prev, tail, writer, completed] = if p.place == named.register { [0; 5] } else { p.node };
+            let unread = p.place == named.register || p.node[4] == 1;
+            let [next, prev, tail, ..] = if unread { [0; 5] } else { p.node };
+            let completed = p.node[4];
             let next = if p.links && next != 0 { 16 * node(next / 16) } else { next };
             let second = if p.place == named.restore { word(p.second) } else { node(p.second) };
             key.extend([p.token, p.holding, p.place, p.role, p.reloads, word(p.seen), node(p.first), second]);
-            key.extend([next, node(prev), node(tail), writer, completed]);
+            key.extend([next, node(prev), node(tail), completed]);
         }
         key
     }
@@ -147,7 +151,9 @@ fn orders(count: u8) -> Vec<Vec<u8>> {
 
 /// Bit t: is the next of thread t's node a link, on the Rust's side?
 fn links(compared: &Comparison) -> u8 {
-    (0..compared.front.count()).map(|t| ((compared.eye.filled(t) && compared.eye.nodes.links(t)) as u8) << t).sum()
+    (0..compared.side.front.count())
+        .map(|t| ((compared.side.eye.filled(t) && compared.side.eye.nodes.links(t)) as u8) << t)
+        .sum()
 }
 
 struct Search<'s, 'a> {
@@ -194,12 +200,12 @@ impl Search<'_, '_> {
 
     /// Both sides go to a machine; the Rust can come back to it.
     fn go_to(&mut self, path: &[Event]) -> (Front, Saved) {
-        self.compared.front = Front::new(self.count as usize);
+        self.compared.side.front = Front::new(self.count as usize);
         for &(code, thread) in path {
-            self.compared.front.event(code, thread);
+            self.compared.side.front.event(code, thread);
         }
         self.lead_port(path);
-        (self.compared.front.clone(), stage::save(self.count as usize))
+        (self.compared.side.front.clone(), stage::save(self.count as usize))
     }
 
     fn lead_port(&mut self, path: &[Event]) {
@@ -219,19 +225,19 @@ impl Search<'_, '_> {
         }
         let mut reloading = Vec::new();
         for event in self.reached[machine].accepts.clone() {
-            let before = self.compared.eye.place(event.1 as usize);
+            let before = self.compared.side.eye.place(event.1 as usize);
             let mut one = self.attempt(machine, event);
             if self.reloads(before, event.1) {
-                reloading.push((event, self.compared.front.clone(), stage::save(self.count as usize)));
+                reloading.push((event, self.compared.side.front.clone(), stage::save(self.count as usize)));
             } else {
                 one.links = Some(links(self.compared));
             }
             tried.push(one);
-            self.compared.front = start.0.clone();
+            self.compared.side.front = start.0.clone();
             stage::restore(&start.1);
         }
         for (event, front, saved) in reloading {
-            self.compared.front = front;
+            self.compared.side.front = front;
             stage::restore(&saved);
             self.lead_port(&path);
             self.compared.port.ask(Ask::Quietly, event.0, event.1);
@@ -242,14 +248,13 @@ impl Search<'_, '_> {
     /// Has the thread begun to reload, or does it go on to? Then its reloads are gone through at once.
     fn reloads(&self, before: u64, thread: u8) -> bool {
         let contending = &self.named.contending;
-        !self.full && contending.contains(&before) && self.compared.eye.place(thread as usize) == contending[0]
+        !self.full && contending.contains(&before) && self.compared.side.eye.place(thread as usize) == contending[0]
     }
 
     fn attempt(&mut self, machine: usize, event: Event) -> Tried {
         self.compared.port.ask(Ask::Try, event.0, event.1);
-        let mut rust = String::new();
-        self.compared.rust(event.0, event.1, &mut rust);
-        Tried { machine, by: vec![event], rust, links: None }
+        self.compared.side.event(event.0, event.1);
+        Tried { machine, by: vec![event], rust: self.compared.side.line.clone(), links: None }
     }
 
     /// The reloads after an event, up to the last.
@@ -258,9 +263,9 @@ impl Search<'_, '_> {
         let mut by = vec![event];
         loop {
             by.push(step);
-            let mut rust = String::new();
-            self.compared.rust(step.0, step.1, &mut rust);
-            let goes_on = self.compared.eye.place(step.1 as usize) == self.named.contending[0];
+            self.compared.side.event(step.0, step.1);
+            let rust = self.compared.side.line.clone();
+            let goes_on = self.compared.side.eye.place(step.1 as usize) == self.named.contending[0];
             let links = (!goes_on).then(|| links(self.compared));
             self.compared.port.ask(if goes_on { Ask::Show } else { Ask::Try }, step.0, step.1);
             tried.push(Tried { machine, by: by.clone(), rust, links });
@@ -294,10 +299,10 @@ impl Search<'_, '_> {
         }
     }
 
-    fn run(&mut self, most: usize) -> Found {
+    fn run(&mut self) -> Found {
         let mut at = 0;
         let mut line = String::new();
-        while at < self.reached.len() && at < most && self.compared.differences == 0 {
+        while at < self.reached.len() && self.compared.differences == 0 {
             let end = self.reached.len().min(at + CHUNK);
             let mut tried = Vec::new();
             for machine in at..end {
@@ -316,9 +321,9 @@ impl Search<'_, '_> {
 
 /// Goes through every machine of `count` threads. A thread that began to reload goes on to its last reload at once, unless
 /// `full`: then every interleaving of the reloads is gone through too.
-pub fn run(compared: &mut Comparison, count: u8, full: bool, most: usize) -> Found {
+pub fn run(compared: &mut Comparison, count: u8, full: bool) -> Found {
     assert!(count as usize <= THREADS);
-    let place = |name: &str| compared.eye.places.named(name);
+    let place = |name: &str| compared.side.eye.places.named(name);
     let contending = ["ContendLoad", "ContendCas", "RegisterCas"].map(place);
     let named = Named { contending, register: contending[2] as u8, restore: place("SplitRestore") as u8 };
     let fresh = Machine { word: 0, parts: vec![Part::default(); count as usize] };
@@ -326,5 +331,5 @@ pub fn run(compared: &mut Comparison, count: u8, full: bool, most: usize) -> Fou
     let seen = HashSet::from([fresh.key(&named, &orders)]);
     let first = Reached { from: 0, by: Vec::new(), accepts: fresh.accepts() };
     let mut search = Search { compared, count, full, named, orders, reached: vec![first], seen, deepest: 0 };
-    search.run(most)
+    search.run()
 }

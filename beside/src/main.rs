@@ -18,6 +18,8 @@ include!(concat!(env!("OUT_DIR"), "/mount.rs"));
 mod caller;
 mod compare;
 mod context;
+mod coverage;
+mod damage;
 mod explore;
 mod front;
 mod met;
@@ -27,41 +29,70 @@ mod port;
 mod random;
 mod replay;
 mod schedule;
+mod side;
 mod stage;
 mod state;
+mod vectors;
 mod walks;
+mod whole;
 
-fn main() {
+use std::fs;
+use std::process::ExitCode;
+use whole::Programs;
+
+const USAGE: &str = "in the repository's folder, one of
+  beside compare                          everything; VECTORS and REPLAY are the commands of the port's programs
+  beside explore THREADS [full]           every machine of so many threads
+  beside replay FILE [states]             document 01's lines by queue.rs; the whole state after each
+  beside vectors                          make the fixed list anew
+  beside stream SEED EVENTS FOLDER        random schedules, as the port's program takes them, and the Rust's answers";
+
+fn words(variable: &str) -> Vec<String> {
+    let command =
+        std::env::var(variable).unwrap_or_else(|_| panic!("{variable} is the command of a program of the port"));
+    command.split_whitespace().map(String::from).collect()
+}
+
+fn programs() -> Programs {
+    Programs { vectors: words("VECTORS"), replay: words("REPLAY") }
+}
+
+fn write_list(folder: &str, commands: &[u8], answers: &str) {
+    fs::write(format!("{folder}/stdin"), commands).expect("the commands are written");
+    fs::write(format!("{folder}/stdout"), answers).expect("the answers are written");
+}
+
+fn obey(arguments: &[&str]) -> bool {
     stage::set_up();
-    let text = std::fs::read_to_string("../docs/PLACES.md").unwrap();
-    let eye = state::Eye::new(nodes::Nodes::found(), places::Places::read(&text));
-    println!("{:?}", eye.nodes);
-    let words: Vec<String> = std::env::var("PORT").unwrap().split(' ').map(String::from).collect();
-    let mut c = compare::Comparison::new(&eye, port::Port::start(&words));
-    let began = std::time::Instant::now();
-    let f = explore::run(
-        &mut c,
-        std::env::args().nth(1).unwrap().parse().unwrap(),
-        std::env::args().nth(2).is_some(),
-        20_000_000,
-    );
-    println!(
-        "{} machines {} deep {} events {} differences {:?}",
-        f.machines,
-        f.deepest,
-        c.compared,
-        c.differences,
-        began.elapsed()
-    );
-    let n = walks::run(&mut c, 1, 1_00);
-    println!("{n} schedules {} events {} differences {:?}", c.compared, c.differences, began.elapsed());
-    if let Some(d) = &c.first {
-        println!("{}\n{}\n{}", d.schedule.spelled(), d.rust, d.port);
+    let table = fs::read_to_string("docs/PLACES.md").expect("docs/PLACES.md, in the repository's folder");
+    let eye = state::Eye::new(nodes::Nodes::found(), places::Places::read(&table));
+    match arguments {
+        ["compare"] => return whole::run(&eye, &programs()),
+        ["explore", count] => return whole::explore_only(&eye, &programs(), count.parse().expect("a number"), false),
+        ["explore", count, "full"] => {
+            return whole::explore_only(&eye, &programs(), count.parse().expect("a number"), true);
+        }
+        ["replay", file] => print!("{}", replay::printed(&eye, &fs::read(file).expect("a file"), false)),
+        ["replay", file, "states"] => print!("{}", replay::printed(&eye, &fs::read(file).expect("a file"), true)),
+        ["vectors"] => {
+            let commands = vectors::commands(&vectors::chosen(&eye, 1));
+            write_list("crates/vectors", &commands, &vectors::answers(&eye, &commands));
+        }
+        ["stream", seed, events, folder] => {
+            let (seed, events) = (seed.parse().expect("a number"), events.parse().expect("a number"));
+            let (commands, answers) = whole::stream(&eye, seed, events);
+            write_list(folder, &commands, &answers);
+        }
+        _ => {
+            eprintln!("{USAGE}");
+            return false;
+        }
     }
-    for (b, n) in &c.met.branches {
-        println!("{n:9} {b}");
-    }
-    println!("{:?}", c.met.refusals);
-    c.port.end();
-    print!("{}", replay::printed(&eye, &[1, 0, 0, 0, 5, 1, 3, 0, 0x10, 0], true));
+    true
+}
+
+fn main() -> ExitCode {
+    let arguments: Vec<String> = std::env::args().skip(1).collect();
+    let arguments: Vec<&str> = arguments.iter().map(String::as_str).collect();
+    if obey(&arguments) { ExitCode::SUCCESS } else { ExitCode::FAILURE }
 }

@@ -1,15 +1,69 @@
 //! How often each place, outcome and branch was met. A branch is where a thread stood and went: its call, the place, what
-//! its compare or park came to, and the place after it, or the answer that ended the call.
+//! its compare or park came to, and the place after it, or the answer that ended the call. branches.txt lists them all.
 
 use crate::front::{Front, Holding, Reply};
-use crate::stage::{Call, Happened, Kind};
+use crate::places::Places;
+use crate::stage::{self, Call, Happened, Kind, Pending};
 use crate::state::Eye;
-use std::collections::BTreeMap;
+use std::collections::{BTreeMap, HashMap};
+
+/// The word's flag of a queue, and a reader in it.
+const QUEUED: u64 = 2;
+const SINGLE: u64 = 16;
 
 #[derive(Default)]
 pub struct Met {
-    pub branches: BTreeMap<String, u64>,
-    pub refusals: [u64; 9],
+    places: BTreeMap<u64, u64>,
+    branches: HashMap<Branch, u64>,
+    refusals: [u64; 9],
+}
+
+/// As numbers, since one is made for each event: call, place with its case, outcome, place after with its case.
+#[derive(Clone, Copy, PartialEq, Eq, Hash)]
+pub struct Branch {
+    call: &'static str,
+    from: Spot,
+    outcome: &'static str,
+    to: Spot,
+}
+
+#[derive(Clone, Copy, PartialEq, Eq, Hash)]
+enum Spot {
+    Answer(&'static str),
+    /// the place, and its line where it has several
+    Place(u64, Option<u32>),
+    /// a registration: the queue's first, or a later one
+    Register(u64, bool),
+}
+
+impl Spot {
+    fn of(eye: &Eye, pending: &Pending) -> Spot {
+        let Some(number) = eye.places.number(pending.line, pending.access.kind) else {
+            return Spot::Place(u64::MAX, Some(pending.line));
+        };
+        if number == eye.register {
+            return Spot::Register(number, eye.nodes.word(pending.access.operand) & QUEUED == 0);
+        }
+        let several = eye.places.list[number as usize].lines.len() > 1;
+        Spot::Place(number, several.then_some(pending.line))
+    }
+
+    fn name(self, places: &Places) -> String {
+        let place = |n: u64| places.list.get(n as usize).map_or("nowhere", |p| p.name.as_str());
+        match self {
+            Spot::Answer(word) => word.to_string(),
+            Spot::Place(n, None) => place(n).to_string(),
+            Spot::Place(n, Some(line)) => format!("{} {line}", place(n)),
+            Spot::Register(n, true) => format!("{} first", place(n)),
+            Spot::Register(n, false) => format!("{} later", place(n)),
+        }
+    }
+}
+
+impl Branch {
+    pub fn row(&self, places: &Places) -> [String; 4] {
+        [self.call.into(), self.from.name(places), self.outcome.into(), self.to.name(places)]
+    }
 }
 
 fn call_name(call: Option<Call>, holding: Holding) -> &'static str {
@@ -19,36 +73,50 @@ fn call_name(call: Option<Call>, holding: Holding) -> &'static str {
         Call::TryRead => "try_read",
         Call::TryWrite => "try_write",
         Call::ReadUnlock if holding == Holding::Read => "read_unlock",
-        // after its subtraction a reader goes on as a writer that leaves
         Call::ReadUnlock => "last_reader",
         Call::WriteUnlock => "write_unlock",
         Call::Downgrade => "downgrade",
     }
 }
 
-fn outcome(kind: Kind, fails: bool, happened: &Happened) -> &'static str {
+/// What the access came to; of a compare that succeeded, with what the word became.
+fn outcome(kind: Kind, fails: bool, happened: &Happened, word: u64) -> &'static str {
     match (kind, fails, happened.compared) {
-        (Kind::Park, true, _) => "no cause",
-        (Kind::Park, false, _) => "token",
         (_, true, _) => "no cause",
-        (_, false, Some(true)) => "same",
-        (_, false, Some(false)) => "another",
-        (_, false, None) => "-",
+        (Kind::Park, ..) => "token",
+        (_, _, Some(false)) => "another",
+        (_, _, Some(true)) if word == 0 => "same free",
+        (_, _, Some(true)) if word & QUEUED != 0 => "same waiters",
+        (_, _, Some(true)) if word < SINGLE => "same writer",
+        (_, _, Some(true)) => "same readers",
+        (_, _, None) => "-",
     }
 }
 
-/// Where a thread stands before a step: its call by name, its place and the kind of its access.
+/// Where a thread stands before a step.
 pub struct Before {
     call: &'static str,
-    place: u64,
+    from: Spot,
     kind: Kind,
 }
 
 impl Before {
     pub fn of(eye: &Eye, front: &Front, thread: usize) -> Option<Before> {
-        let kind = crate::stage::pending(thread)?.access.kind;
+        let pending = stage::pending(thread)?;
         let call = call_name(front.call(thread), front.holding(thread));
-        Some(Before { call, place: eye.place(thread), kind })
+        Some(Before { call, from: Spot::of(eye, &pending), kind: pending.access.kind })
+    }
+
+    /// The branch that an accepted step took from here.
+    pub fn led_to(&self, eye: &Eye, front: &Front, thread: usize, fails: bool, reply: Reply) -> Branch {
+        let to = match (stage::pending(thread), reply) {
+            (Some(pending), _) => Spot::of(eye, &pending),
+            (None, Reply::Accepted(answer, _)) => Spot::Answer(answer.word()),
+            (None, _) => Spot::Answer("panicked"),
+        };
+        let word = eye.nodes.word(stage::word());
+        let outcome = outcome(self.kind, fails, &front.happened, word);
+        Branch { call: self.call, from: self.from, outcome, to }
     }
 }
 
@@ -57,15 +125,23 @@ impl Met {
         self.refusals[number as usize] += 1;
     }
 
-    /// An accepted step of a thread that stood at `before`.
-    pub fn stepped(&mut self, eye: &Eye, front: &Front, before: &Before, thread: usize, fails: bool, reply: Reply) {
-        let name = |place: u64| eye.places.list.get(place as usize).map_or("nowhere", |p| p.name.as_str());
-        let after = match (eye.place(thread), reply) {
-            (0, Reply::Accepted(answer, _)) => answer.word(),
-            (place, _) => name(place),
-        };
-        let outcome = outcome(before.kind, fails, &front.happened);
-        let branch = format!("{} | {} | {outcome} | {after}", before.call, name(before.place));
+    pub fn stepped(&mut self, branch: Branch) {
         *self.branches.entry(branch).or_default() += 1;
+        if let Spot::Place(n, _) | Spot::Register(n, _) = branch.from {
+            *self.places.entry(n).or_default() += 1;
+        }
+    }
+
+    /// The branches that were met, as rows of branches.txt.
+    pub fn rows(&self, places: &Places) -> BTreeMap<[String; 4], u64> {
+        self.branches.iter().map(|(branch, &times)| (branch.row(places), times)).collect()
+    }
+
+    pub fn place(&self, number: usize) -> u64 {
+        self.places.get(&(number as u64)).copied().unwrap_or(0)
+    }
+
+    pub fn refusal(&self, number: usize) -> u64 {
+        self.refusals[number]
     }
 }

@@ -11,9 +11,8 @@ use crate::thread::Thread;
 /// The flags below the number in a word.
 const FLAGS: usize = 15;
 
-/// A struct of the node's fields, for its size.
-#[repr(align(16))]
-struct Alike(AtomicPtr<()>, AtomicPtr<()>, AtomicPtr<()>, bool, OnceCell<Thread>, AtomicBool);
+/// A tuple of the node's fields, for its size.
+type Alike = (AtomicPtr<()>, AtomicPtr<()>, AtomicPtr<()>, bool, OnceCell<Thread>, AtomicBool);
 
 #[derive(Clone, Copy, PartialEq, Eq, Debug)]
 pub enum Field {

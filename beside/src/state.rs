@@ -13,7 +13,7 @@ const TOKEN: u64 = 6;
 pub struct Eye {
     pub nodes: Nodes,
     pub places: Places,
-    register: u64,
+    pub register: u64,
 }
 
 impl Eye {

@@ -1,10 +1,12 @@
 //! Random schedules, biased to what is rare: contention, downgrades, tries, failed compares, waits that end for no cause.
 
 use crate::compare::Comparison;
-use crate::front::{FAIL, Front, Holding, STEP};
+use crate::front::{FAIL, Front, Holding, Reply, STEP};
 use crate::random::Random;
-use crate::schedule::LIMIT;
+use crate::schedule::{LIMIT, Schedule};
+use crate::side::{Runs, Side};
 use crate::stage::{self, Kind, THREADS};
+use crate::state::Eye;
 
 /// How one schedule leans; each is "once in so many".
 struct Lean {
@@ -59,11 +61,11 @@ fn strange(random: &mut Random) -> (u8, u8) {
     (code, random.below(THREADS as u64 + 2) as u8)
 }
 
-/// One schedule on both sides: `count` threads, `length` events.
-fn walk(compared: &mut Comparison, random: &mut Random, count: u8, length: usize) {
+/// One schedule: `count` threads, `length` events.
+pub fn walk(on: &mut impl Runs, random: &mut Random, count: u8, length: usize) {
     let lean = Lean::new(random);
     let mut thread = 0;
-    compared.fresh(count);
+    on.fresh(count);
     for _ in 0..length {
         if !random.once_in(lean.stay) || asleep(thread) {
             thread = random.below(count as u64) as usize;
@@ -77,9 +79,9 @@ fn walk(compared: &mut Comparison, random: &mut Random, count: u8, length: usize
                     thread = random.below(count as u64) as usize;
                 }
             }
-            (lean.code(random, &compared.front, thread), thread as u8)
+            (lean.code(random, on.front(), thread), thread as u8)
         };
-        compared.event(code, at);
+        on.event(code, at);
     }
 }
 
@@ -102,4 +104,40 @@ pub fn run(compared: &mut Comparison, seed: u64, events: u64) -> u64 {
     }
     compared.settle();
     schedules
+}
+
+/// Random schedules of so many events in all, short ones, as a list.
+pub fn schedules(eye: &Eye, seed: u64, events: usize) -> Vec<Schedule> {
+    let mut random = Random(seed);
+    let mut kept = Kept { side: Side::new(eye), list: Vec::new() };
+    while kept.list.iter().map(|s| s.events.len()).sum::<usize>() < events {
+        let count = 2 + random.below(4) as u8;
+        walk(&mut kept, &mut random, count, 100);
+    }
+    kept.list
+}
+
+/// The Rust's side, and the events that it accepted.
+pub struct Kept<'a> {
+    pub side: Side<'a>,
+    pub list: Vec<Schedule>,
+}
+
+impl Runs for Kept<'_> {
+    fn fresh(&mut self, count: u8) {
+        self.side.fresh(count);
+        self.list.push(Schedule { count, events: Vec::new() });
+    }
+
+    fn event(&mut self, code: u8, thread: u8) -> Reply {
+        let reply = self.side.event(code, thread);
+        if let (Reply::Accepted(..), Some(last)) = (reply, self.list.last_mut()) {
+            last.events.push((code, thread));
+        }
+        reply
+    }
+
+    fn front(&self) -> &Front {
+        self.side.front()
+    }
 }
