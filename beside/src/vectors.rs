@@ -1,7 +1,7 @@
 //! The fixed list: short schedules that together take every branch of queue.rs, with the Rust's line for each event. It
 //! is kept as what the port's program reads and must print (crates/vectors/stdin and stdout), and the gate runs it.
 
-use crate::front::{Front, Reply};
+use crate::front::{FAIL, Front, Reply, STEP};
 use crate::met::Branch;
 use crate::port::Ask;
 use crate::random::Random;
@@ -82,16 +82,18 @@ fn taken(side: &mut Side, schedule: &Schedule) -> Vec<Branch> {
     schedule.events.iter().filter_map(branch).collect()
 }
 
-/// Each refusal from 1 to 7, and the machine after it.
-fn refusals() -> Schedule {
-    let events =
-        vec![(7, 0), (255, 9), (0, 2), (16, 0), (17, 1), (4, 0), (5, 1), (6, 0), (1, 0), (0, 0), (17, 0), (16, 0)];
-    let more = [(0, 0), (4, 0), (0, 1), (16, 1), (17, 1)];
-    let register = [(16, 1); 10];
-    Schedule {
-        count: 2,
-        events: [events, more.to_vec(), register.to_vec(), vec![(16, 1), (17, 1), (16, 1), (16, 1)]].concat(),
-    }
+/// Each refusal from 1 to 7, with code 17 at a load, a fetch-or, a strong compare, a store, a completion and a subtraction.
+fn refusals() -> Vec<Schedule> {
+    let (steps, fail) = (|n: usize, thread: u8| vec![(STEP, thread); n], |thread: u8| vec![(FAIL, thread)]);
+    let strange = vec![(7, 0), (255, 9), (0, 2), (16, 0), (17, 1), (4, 0), (5, 1), (6, 0), (1, 0), (0, 0)];
+    let held = [strange, fail(0), steps(1, 0), vec![(0, 0), (4, 0), (0, 1)], fail(1), steps(10, 1)].concat();
+    let parked = [held, steps(2, 1), fail(1), steps(1, 1)].concat();
+    let released =
+        [parked.clone(), vec![(5, 0)], fail(0), steps(3, 0), fail(0), steps(3, 0), fail(0), steps(1, 0)].concat();
+    let downgraded = [parked, vec![(6, 0)], fail(0), steps(1, 0)].concat();
+    let contended =
+        [vec![(0, 0)], steps(2, 0), vec![(1, 1)], steps(11, 1), vec![(4, 0)], steps(3, 0), fail(0), steps(3, 0)];
+    [released, downgraded, contended.concat()].map(|events| Schedule { count: 2, events }).to_vec()
 }
 
 /// Schedules that take every branch that was found, longest ones first chosen, each short.
@@ -105,8 +107,8 @@ pub fn chosen(eye: &Eye, seed: u64) -> Vec<Schedule> {
     let mut side = shortest.side;
     let mut found: Vec<(Branch, Schedule)> = shortest.found.into_iter().collect();
     found.sort_by_key(|(branch, schedule)| (std::cmp::Reverse(schedule.events.len()), branch.row(&eye.places)));
-    let mut list = vec![refusals()];
-    let mut covered: Vec<Branch> = taken(&mut side, &list[0]);
+    let mut list = refusals();
+    let mut covered: Vec<Branch> = list.iter().flat_map(|schedule| taken(&mut side, schedule)).collect();
     for (branch, schedule) in found {
         if !covered.contains(&branch) {
             let schedule = shrunk(&mut side, schedule, branch);

@@ -11,7 +11,18 @@ use libc::STDIN_FILENO;
 use libc::STDOUT_FILENO;
 use lock::event::event;
 use state::Machine;
+use state::Outcome;
+use state::Refusal;
 use word::ThreadNumber;
+
+// A fresh machine of so many threads.
+const FRESH: u8 = 0;
+
+// An event whose line is printed; one more command, between this and the next, is an event with no line.
+const SHOW: u8 = 1;
+
+// An event whose line is printed with what the places carry, and which is not kept. Any higher byte asks nothing.
+const TRY: u8 = 3;
 
 // The bytes of a command.
 const WIDTH: usize = 3;
@@ -21,18 +32,6 @@ const BLOCK: usize = 4095;
 
 // The buffer is written out when it is fuller than this; no command's lines are longer than the rest.
 const FULL: usize = 60000;
-
-struct Served {
-    machine: Machine,
-    at: usize,
-}
-
-fn to(machine: Machine, at: usize) -> Served {
-    Served {
-        machine: machine,
-        at: at,
-    }
-}
 
 fn within(out: &[u8], at: usize) -> usize
     ensures { λ r. ⌜ Counts r (now (out .entry)) ⌝ }
@@ -57,38 +56,34 @@ fn with_room(out: &[u8], at: usize) -> usize {
     at
 }
 
-fn begin_fresh(count: u8, at: usize) -> Served {
+fn begun(count: u8) -> Outcome {
     let fresh = Machine::fresh(count);
     let machine = fresh.machine;
-    to(machine, at)
+    machine.refused(Refusal::UnknownCode)
 }
 
-fn quietly(m: Machine, code: u8, me: ThreadNumber, at: usize) -> Served {
-    let o = event(m, code, me);
-    let machine = o.machine;
-    to(machine, at)
-}
-
-fn shown(m: Machine, code: u8, me: ThreadNumber, out: &mut [u8], at: usize) -> Served {
-    let o = event(m, code, me);
-    let machine = o.machine;
-    to(machine, line::put_state(out, at, o, false))
-}
-
-// The event is shown with what the places carry, and not kept.
-fn tried(m: Machine, code: u8, me: ThreadNumber, out: &mut [u8], at: usize) -> Served {
-    let o = event(m, code, me);
-    to(m, line::put_state(out, at, o, true))
-}
-
-fn obey(m: Machine, command: u8, code: u8, me: ThreadNumber, out: &mut [u8], at: usize) -> Served {
-    match command {
-        0 => begin_fresh(code, at),
-        1 => shown(m, code, me, out, at),
-        2 => quietly(m, code, me, at),
-        3 => tried(m, code, me, out, at),
-        _ => to(m, at),
+// What a command leads to: a fresh machine, or an event's outcome.
+fn outcome(m: Machine, command: u8, code: u8, me: ThreadNumber) -> Outcome {
+    if command == FRESH {
+        return begun(code);
     }
+    event(m, code, me)
+}
+
+fn shown(out: &mut [u8], at: usize, command: u8, o: Outcome) -> usize {
+    match command {
+        SHOW => line::put_state(out, at, o, false),
+        TRY => line::put_state(out, at, o, true),
+        _ => at,
+    }
+}
+
+fn kept(m: Machine, command: u8, o: Outcome) -> Machine {
+    if command < TRY {
+        let machine = o.machine;
+        return machine;
+    }
+    m
 }
 
 fn serve(first: Machine, input: &[u8], out: &mut [u8]) -> Machine {
@@ -97,17 +92,11 @@ fn serve(first: Machine, input: &[u8], out: &mut [u8]) -> Machine {
     let mut k: usize = 0;
     while k < input.len() / WIDTH {
         let from = WIDTH * k;
-        let s = obey(
-            m,
-            input[from],
-            input[from + 1],
-            ThreadNumber(input[from + 2]),
-            out,
-            at,
-        );
-        let next = s.machine;
-        m = next;
-        at = with_room(out, s.at);
+        let command = input[from];
+        let o = outcome(m, command, input[from + 1], ThreadNumber(input[from + 2]));
+        at = shown(out, at, command, o);
+        at = with_room(out, at);
+        m = kept(m, command, o);
         k = k + 1;
     }
     write_out(out, at);

@@ -19,26 +19,32 @@ loop-holds c = refl
 mul-from : tie.Need-mul-from Inv-loop μ-loop
 mul-from c = omega arith
 
-shared-slice-read-obey : tie.Need-shared-slice-read-obey Inv-loop μ-loop
-shared-slice-read-obey c = omega arith
+shared-slice-read-command : tie.Need-shared-slice-read-command Inv-loop μ-loop
+shared-slice-read-command c = omega arith
 
-add-obey : tie.Need-add-obey Inv-loop μ-loop
-add-obey c = omega arith
+add-outcome : tie.Need-add-outcome Inv-loop μ-loop
+add-outcome c = omega arith
 
-shared-slice-read-obey-2 : tie.Need-shared-slice-read-obey-2 Inv-loop μ-loop
-shared-slice-read-obey-2 c = omega arith
+shared-slice-read-outcome : tie.Need-shared-slice-read-outcome Inv-loop μ-loop
+shared-slice-read-outcome c = omega arith
 
 add-t11 : tie.Need-add-t11 Inv-loop μ-loop
 add-t11 c = omega arith
 
-shared-slice-read-t18 : tie.Need-shared-slice-read-t18 Inv-loop μ-loop
-shared-slice-read-t18 c = omega arith
+shared-slice-read-t17 : tie.Need-shared-slice-read-t17 Inv-loop μ-loop
+shared-slice-read-t17 c = omega arith
 
-obey-requires : tie.Need-obey-requires Inv-loop μ-loop
-obey-requires c κs = tt
+outcome-requires : tie.Need-outcome-requires Inv-loop μ-loop
+outcome-requires c κs = tt
+
+shown-requires : tie.Need-shown-requires Inv-loop μ-loop
+shown-requires c κs = tt
 
 with-room-requires : tie.Need-with-room-requires Inv-loop μ-loop
 with-room-requires c κs = tt
+
+kept-requires : tie.Need-kept-requires Inv-loop μ-loop
+kept-requires c κs = tt
 
 add-k : tie.Need-add-k Inv-loop μ-loop
 add-k c = omega arith
@@ -66,13 +72,15 @@ serve-spec =
     μ-loop
     loop-holds
     mul-from
-    shared-slice-read-obey
-    add-obey
-    shared-slice-read-obey-2
+    shared-slice-read-command
+    add-outcome
+    shared-slice-read-outcome
     add-t11
-    shared-slice-read-t18
-    obey-requires
+    shared-slice-read-t17
+    outcome-requires
+    shown-requires
     with-room-requires
+    kept-requires
     add-k
     loop-less
     loop-again
