@@ -7,8 +7,10 @@ use crate::stage::{self, Call, Happened, Kind, Pending};
 use crate::state::Eye;
 use std::collections::{BTreeMap, HashMap};
 
-/// The word's flag of a queue, and a reader in it.
+/// The word's flags, and a reader in it.
+const LOCKED: u64 = 1;
 const QUEUED: u64 = 2;
+const DOWNGRADED: u64 = 8;
 const SINGLE: u64 = 16;
 
 #[derive(Default)]
@@ -79,16 +81,26 @@ fn call_name(call: Option<Call>, holding: Holding) -> &'static str {
     }
 }
 
-/// What the access came to; of a compare that succeeded, with what the word became.
-fn outcome(kind: Kind, fails: bool, happened: &Happened, word: u64) -> &'static str {
+/// What a compare that succeeded made of the word.
+fn same(word: u64) -> &'static str {
+    match word {
+        0 => "same free",
+        _ if word & QUEUED == 0 && word < SINGLE => "same writer",
+        _ if word & QUEUED == 0 => "same readers",
+        _ if word & DOWNGRADED != 0 => "same waiters downgraded",
+        _ if word & LOCKED != 0 => "same waiters locked",
+        _ => "same waiters free",
+    }
+}
+
+/// What the access came to.
+fn outcome(kind: Kind, fails: bool, happened: &Happened, word: u64, token: bool) -> &'static str {
     match (kind, fails, happened.compared) {
+        (Kind::Park, true, _) if token => "no cause with a token",
         (_, true, _) => "no cause",
         (Kind::Park, ..) => "token",
         (_, _, Some(false)) => "another",
-        (_, _, Some(true)) if word == 0 => "same free",
-        (_, _, Some(true)) if word & QUEUED != 0 => "same waiters",
-        (_, _, Some(true)) if word < SINGLE => "same writer",
-        (_, _, Some(true)) => "same readers",
+        (_, _, Some(true)) => same(word),
         (_, _, None) => "-",
     }
 }
@@ -98,13 +110,14 @@ pub struct Before {
     call: &'static str,
     from: Spot,
     kind: Kind,
+    token: bool,
 }
 
 impl Before {
     pub fn of(eye: &Eye, front: &Front, thread: usize) -> Option<Before> {
         let pending = stage::pending(thread)?;
         let call = call_name(front.call(thread), front.holding(thread));
-        Some(Before { call, from: Spot::of(eye, &pending), kind: pending.access.kind })
+        Some(Before { call, from: Spot::of(eye, &pending), kind: pending.access.kind, token: stage::token(thread) })
     }
 
     /// The branch that an accepted step took from here.
@@ -115,7 +128,7 @@ impl Before {
             (None, _) => Spot::Answer("panicked"),
         };
         let word = eye.nodes.word(stage::word());
-        let outcome = outcome(self.kind, fails, &front.happened, word);
+        let outcome = outcome(self.kind, fails, &front.happened, word, self.token);
         Branch { call: self.call, from: self.from, outcome, to }
     }
 }

@@ -12,7 +12,7 @@ use crate::walks;
 use std::collections::HashMap;
 
 /// Random schedules that are looked through, and their length.
-const LOOKED_AT: usize = 60_000;
+const LOOKED_AT: usize = 100_000;
 const LENGTH: usize = 120;
 
 /// The shortest beginning of a schedule that takes each branch.

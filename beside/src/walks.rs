@@ -2,11 +2,16 @@
 
 use crate::compare::Comparison;
 use crate::front::{FAIL, Front, Holding, Reply, STEP};
+use crate::met::Branch;
 use crate::random::Random;
 use crate::schedule::{LIMIT, Schedule};
 use crate::side::{Runs, Side};
 use crate::stage::{self, Kind, THREADS};
 use crate::state::Eye;
+use std::collections::HashMap;
+
+/// A branch that a list of schedules takes less often than this is looked for.
+const FEW: u64 = 3;
 
 /// How one schedule leans; each is "once in so many".
 struct Lean {
@@ -44,7 +49,7 @@ impl Lean {
         let Some(pending) = stage::pending(thread) else { return self.begin(random, front.holding(thread)) };
         match pending.access.kind {
             Kind::WeakCompare if random.once_in(self.spurious) => FAIL,
-            Kind::Park if !stage::token(thread) && random.once_in(self.spurious) => FAIL,
+            Kind::Park if random.once_in(self.spurious) => FAIL,
             _ => STEP,
         }
     }
@@ -106,21 +111,31 @@ pub fn run(compared: &mut Comparison, seed: u64, events: u64) -> u64 {
     schedules
 }
 
-/// Random schedules of so many events in all, short ones, as a list.
+/// Random schedules of so many events in all, of which each takes a branch that few before it took.
 pub fn schedules(eye: &Eye, seed: u64, events: usize) -> Vec<Schedule> {
     let mut random = Random(seed);
-    let mut kept = Kept { side: Side::new(eye), list: Vec::new() };
-    while kept.list.iter().map(|s| s.events.len()).sum::<usize>() < events {
+    let mut kept = Kept { side: Side::new(eye), list: Vec::new(), branches: Vec::new() };
+    let mut times: HashMap<Branch, u64> = HashMap::new();
+    let (mut list, mut total) = (Vec::new(), 0);
+    while total < events {
         let count = 2 + random.below(4) as u8;
         walk(&mut kept, &mut random, count, 100);
+        let schedule = kept.list.pop().expect("the one schedule of the walk");
+        if kept.branches.iter().any(|b| times.get(b).is_none_or(|&t| t < FEW)) {
+            kept.branches.iter().for_each(|b| *times.entry(*b).or_default() += 1);
+            total += schedule.events.len();
+            list.push(schedule);
+        }
+        kept.branches.clear();
     }
-    kept.list
+    list
 }
 
 /// The Rust's side, and the events that it accepted.
 pub struct Kept<'a> {
     pub side: Side<'a>,
     pub list: Vec<Schedule>,
+    pub branches: Vec<Branch>,
 }
 
 impl Runs for Kept<'_> {
@@ -134,6 +149,7 @@ impl Runs for Kept<'_> {
         if let (Reply::Accepted(..), Some(last)) = (reply, self.list.last_mut()) {
             last.events.push((code, thread));
         }
+        self.branches.extend(self.side.branch);
         reply
     }
 

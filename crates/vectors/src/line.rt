@@ -18,6 +18,13 @@ use state::Thread;
 use word::Owner;
 use word::ThreadNumber;
 
+// An event whose line is printed; 2 is an event with no line.
+pub(crate) const SHOW: u8 = 1;
+
+// An event whose line is printed with what the places carry, which queue.rs keeps in its locals; the event is not kept.
+// Any higher byte asks nothing.
+pub(crate) const TRY: u8 = 3;
+
 fn put_answer(out: &mut [u8], at: usize, answer: Answer) -> usize {
     match answer {
         Answer::Begun => put::text(out, at, b"begun"),
@@ -186,12 +193,21 @@ fn put_threads(out: &mut [u8], at: usize, m: Machine, inner: bool) -> usize {
     to
 }
 
-// With `inner`, also what each thread's place carries, which queue.rs keeps in its locals.
-pub(crate) fn put_state(out: &mut [u8], at: usize, o: Outcome, inner: bool) -> usize {
-    let m = o.machine;
-    let reply = o.reply;
-    let replied = put_reply(out, at, reply);
-    let worded = put::number(out, replied, m.word.0);
-    let threaded = put_threads(out, worded, m, inner);
-    put::byte(out, threaded, b'\n')
+fn is_shown(command: u8) -> bool {
+    if command == SHOW {
+        return true;
+    }
+    command == TRY
+}
+
+pub(crate) fn put_state(out: &mut [u8], at: usize, command: u8, o: Outcome) -> usize {
+    if is_shown(command) {
+        let m = o.machine;
+        let reply = o.reply;
+        let replied = put_reply(out, at, reply);
+        let worded = put::number(out, replied, m.word.0);
+        let threaded = put_threads(out, worded, m, command == TRY);
+        return put::byte(out, threaded, b'\n');
+    }
+    at
 }

@@ -9,6 +9,7 @@ mod put;
 ghost use Rattle.io.specs.Counts.{Counts};
 use libc::STDIN_FILENO;
 use libc::STDOUT_FILENO;
+use line::TRY;
 use lock::event::event;
 use state::Machine;
 use state::Outcome;
@@ -17,12 +18,6 @@ use word::ThreadNumber;
 
 // A fresh machine of so many threads.
 const FRESH: u8 = 0;
-
-// An event whose line is printed; one more command, between this and the next, is an event with no line.
-const SHOW: u8 = 1;
-
-// An event whose line is printed with what the places carry, and which is not kept. Any higher byte asks nothing.
-const TRY: u8 = 3;
 
 // The bytes of a command.
 const WIDTH: usize = 3;
@@ -56,26 +51,14 @@ fn with_room(out: &[u8], at: usize) -> usize {
     at
 }
 
-fn begun(count: u8) -> Outcome {
-    let fresh = Machine::fresh(count);
-    let machine = fresh.machine;
-    machine.refused(Refusal::UnknownCode)
-}
-
 // What a command leads to: a fresh machine, or an event's outcome.
 fn outcome(m: Machine, command: u8, code: u8, me: ThreadNumber) -> Outcome {
     if command == FRESH {
-        return begun(code);
+        let fresh = Machine::fresh(code);
+        let machine = fresh.machine;
+        return machine.refused(Refusal::UnknownCode);
     }
     event(m, code, me)
-}
-
-fn shown(out: &mut [u8], at: usize, command: u8, o: Outcome) -> usize {
-    match command {
-        SHOW => line::put_state(out, at, o, false),
-        TRY => line::put_state(out, at, o, true),
-        _ => at,
-    }
 }
 
 fn kept(m: Machine, command: u8, o: Outcome) -> Machine {
@@ -94,7 +77,7 @@ fn serve(first: Machine, input: &[u8], out: &mut [u8]) -> Machine {
         let from = WIDTH * k;
         let command = input[from];
         let o = outcome(m, command, input[from + 1], ThreadNumber(input[from + 2]));
-        at = shown(out, at, command, o);
+        at = line::put_state(out, at, command, o);
         at = with_room(out, at);
         m = kept(m, command, o);
         k = k + 1;

@@ -1,9 +1,8 @@
--- Assumes nothing.
+-- `vectors::serve` is safe and ends. The loop keeps the buffer's length; the measure bounds the commands that are left. Assumes nothing.
 use mathlib.Core.Path.{_≡_, refl}
 use Prim.Native.Nat.{_-_}
 use native.Mathlib.Omega.{arith}
 use lib.ListN.{length}
-use borrow.Author.Needs.{needs}
 use Rattle.vectors.proofs.serve.Statement.{statement}
 use Rattle.vectors.proofs.serve.Tie as tie
 
@@ -37,8 +36,8 @@ shared-slice-read-t17 c = omega arith
 outcome-requires : tie.Need-outcome-requires Inv-loop μ-loop
 outcome-requires c κs = tt
 
-shown-requires : tie.Need-shown-requires Inv-loop μ-loop
-shown-requires c κs = tt
+put-state-requires : tie.Need-put-state-requires Inv-loop μ-loop
+put-state-requires c κs = tt
 
 with-room-requires : tie.Need-with-room-requires Inv-loop μ-loop
 with-room-requires c κs = tt
@@ -78,7 +77,7 @@ serve-spec =
     add-t11
     shared-slice-read-t17
     outcome-requires
-    shown-requires
+    put-state-requires
     with-room-requires
     kept-requires
     add-k

@@ -1,8 +1,8 @@
 -- `vectors::within` answers a number of the buffer's bytes. Assumes nothing.
-use mathlib.Core.Path.{refl, sym}
+use mathlib.Core.Path.{sym}
 use native.Mathlib.Nat.{le-refl, le-of-lt}
 use lib.ListN.{length}
-use lib.Seq.{length-take-le, take-length}
+use lib.Seq.{length-take-le}
 use denote.Ref.{now}
 use Rattle.vectors.proofs.within.Statement.{statement}
 use Rattle.vectors.proofs.within.Tie as tie

@@ -1,9 +1,8 @@
--- Assumes nothing.
+-- `vectors::line::put_threads` is safe and ends. The loop keeps the buffer's length; the measure is how many threads are left. Assumes nothing.
 use mathlib.Core.Path.{_≡_, refl}
 use Prim.Native.Nat.{_-_}
 use native.Mathlib.Omega.{arith}
 use lib.ListN.{length}
-use borrow.Author.Needs.{needs}
 use Rattle.vectors.proofs.line.put_threads.Statement.{statement}
 use Rattle.vectors.proofs.line.put_threads.Tie as tie
 
