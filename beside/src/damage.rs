@@ -57,7 +57,7 @@ fn damaged(random: &mut Random, schedule: &Schedule) -> Vec<u8> {
 
 /// Files on both sides of each limit.
 fn edges(eye: &Eye) -> Vec<Vec<u8>> {
-    let long = |events: usize| Schedule { count: 8, events: vec![(3, 0), (16, 0), (5, 0), (16, 0)].repeat(events / 4) };
+    let long = |events: usize| Schedule { count: 8, events: [(3, 0), (16, 0), (5, 0), (16, 0)].repeat(events / 4) };
     let mut files: Vec<Vec<u8>> =
         (0..=9).map(|count| Schedule { count, events: vec![(3, 0), (16, 0)] }.bytes()).collect();
     files.extend((0..=7).map(|size| vec![1, 0, 0, 0, 1, 1, 0][..size.min(7)].to_vec()));

@@ -31,6 +31,8 @@ pub enum Holding {
 struct Record {
     call: Option<Call>,
     holding: Holding,
+    /// the word after the thread's last access
+    word: usize,
 }
 
 #[derive(Clone)]
@@ -65,7 +67,7 @@ impl Front {
     /// A fresh machine of `count` threads.
     pub fn new(count: usize) -> Front {
         stage::reset();
-        let idle = Record { call: None, holding: Holding::Nothing };
+        let idle = Record { call: None, holding: Holding::Nothing, word: 0 };
         Front { count, records: [idle; stage::THREADS], happened: Happened::default() }
     }
 
@@ -79,6 +81,10 @@ impl Front {
 
     pub fn call(&self, thread: usize) -> Option<Call> {
         self.records[thread].call
+    }
+
+    pub fn last_word(&self, thread: usize) -> usize {
+        self.records[thread].word
     }
 
     pub fn event(&mut self, code: u8, thread: u8) -> Reply {
@@ -139,6 +145,7 @@ impl Front {
     fn step(&mut self, thread: usize, fails: bool) -> Reply {
         let call = self.records[thread].call.expect("a thread with a next access is in a call");
         self.happened = stage::step(thread, fails);
+        self.records[thread].word = stage::word();
         self.released(thread, call);
         let answer = match stage::ended(thread) {
             None => Answer::Went,

@@ -40,7 +40,8 @@ use std::fs;
 use std::process::ExitCode;
 use whole::Programs;
 
-const USAGE: &str = "in the repository's folder, one of
+const USAGE: &str =
+    "in the repository's folder, one of the following; PLACES is the table of places, docs/PLACES.md unless it is set
   beside compare                          everything; VECTORS and REPLAY are the commands of the port's programs
   beside explore THREADS [full]           every machine of so many threads
   beside replay FILE [states]             document 01's lines by queue.rs; the whole state after each
@@ -64,7 +65,8 @@ fn write_list(folder: &str, commands: &[u8], answers: &str) {
 
 fn obey(arguments: &[&str]) -> bool {
     stage::set_up();
-    let table = fs::read_to_string("docs/PLACES.md").expect("docs/PLACES.md, in the repository's folder");
+    let places = std::env::var("PLACES").unwrap_or("docs/PLACES.md".into());
+    let table = fs::read_to_string(&places).unwrap_or_else(|why| panic!("the table of places, {places}: {why}"));
     let eye = state::Eye::new(nodes::Nodes::found(), places::Places::read(&table));
     match arguments {
         ["compare"] => return whole::run(&eye, &programs()),

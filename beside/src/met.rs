@@ -32,8 +32,8 @@ pub struct Branch {
 #[derive(Clone, Copy, PartialEq, Eq, Hash)]
 enum Spot {
     Answer(&'static str),
-    /// the place, and its line where it has several
-    Place(u64, Option<u32>),
+    /// the place, and which of its lines where it has several, from 1
+    Place(u64, Option<usize>),
     /// a registration: the queue's first, or a later one
     Register(u64, bool),
 }
@@ -41,13 +41,14 @@ enum Spot {
 impl Spot {
     fn of(eye: &Eye, pending: &Pending) -> Spot {
         let Some(number) = eye.places.number(pending.line, pending.access.kind) else {
-            return Spot::Place(u64::MAX, Some(pending.line));
+            return Spot::Place(u64::MAX, Some(pending.line as usize));
         };
         if number == eye.register {
             return Spot::Register(number, eye.nodes.word(pending.access.operand) & QUEUED == 0);
         }
-        let several = eye.places.list[number as usize].lines.len() > 1;
-        Spot::Place(number, several.then_some(pending.line))
+        let lines = &eye.places.list[number as usize].lines;
+        let which = lines.iter().position(|&line| line == pending.line).map(|at| at + 1);
+        Spot::Place(number, which.filter(|_| lines.len() > 1))
     }
 
     fn name(self, places: &Places) -> String {
@@ -55,7 +56,7 @@ impl Spot {
         match self {
             Spot::Answer(word) => word.to_string(),
             Spot::Place(n, None) => place(n).to_string(),
-            Spot::Place(n, Some(line)) => format!("{} {line}", place(n)),
+            Spot::Place(n, Some(which)) => format!("{} {which}", place(n)),
             Spot::Register(n, true) => format!("{} first", place(n)),
             Spot::Register(n, false) => format!("{} later", place(n)),
         }
@@ -93,42 +94,51 @@ fn same(word: u64) -> &'static str {
     }
 }
 
-/// What the access came to.
-fn outcome(kind: Kind, fails: bool, happened: &Happened, word: u64, token: bool) -> &'static str {
-    match (kind, fails, happened.compared) {
-        (Kind::Park, true, _) if token => "no cause with a token",
-        (_, true, _) => "no cause",
-        (Kind::Park, ..) => "token",
-        (_, _, Some(false)) => "another",
-        (_, _, Some(true)) => same(word),
-        (_, _, None) => "-",
-    }
-}
-
 /// Where a thread stands before a step.
 pub struct Before {
     call: &'static str,
     from: Spot,
     kind: Kind,
+    thread: usize,
     token: bool,
+    /// has the word changed since the thread's last access?
+    moved: bool,
 }
 
 impl Before {
     pub fn of(eye: &Eye, front: &Front, thread: usize) -> Option<Before> {
         let pending = stage::pending(thread)?;
         let call = call_name(front.call(thread), front.holding(thread));
-        Some(Before { call, from: Spot::of(eye, &pending), kind: pending.access.kind, token: stage::token(thread) })
+        let (token, moved) = (stage::token(thread), front.last_word(thread) != stage::word());
+        Some(Before { call, from: Spot::of(eye, &pending), kind: pending.access.kind, thread, token, moved })
+    }
+
+    /// What the access came to.
+    fn outcome(&self, eye: &Eye, fails: bool, happened: &Happened) -> &'static str {
+        match (self.kind, fails, happened.compared) {
+            (Kind::Park, true, _) if self.token => "no cause with a token",
+            (_, true, _) => "no cause",
+            (Kind::Park, ..) => "token",
+            (Kind::Complete, ..) if happened.woken == Some(self.thread) => "itself",
+            (_, _, Some(false)) => "another",
+            (_, _, Some(true)) => same(eye.nodes.word(stage::word())),
+            (_, _, None) if self.moved && self.restores(eye) => "moved on",
+            (_, _, None) => "-",
+        }
+    }
+
+    fn restores(&self, eye: &Eye) -> bool {
+        self.from == Spot::Place(eye.restore, None)
     }
 
     /// The branch that an accepted step took from here.
-    pub fn led_to(&self, eye: &Eye, front: &Front, thread: usize, fails: bool, reply: Reply) -> Branch {
-        let to = match (stage::pending(thread), reply) {
+    pub fn led_to(&self, eye: &Eye, front: &Front, fails: bool, reply: Reply) -> Branch {
+        let to = match (stage::pending(self.thread), reply) {
             (Some(pending), _) => Spot::of(eye, &pending),
             (None, Reply::Accepted(answer, _)) => Spot::Answer(answer.word()),
             (None, _) => Spot::Answer("panicked"),
         };
-        let word = eye.nodes.word(stage::word());
-        let outcome = outcome(self.kind, fails, &front.happened, word, self.token);
+        let outcome = self.outcome(eye, fails, &front.happened);
         Branch { call: self.call, from: self.from, outcome, to }
     }
 }

@@ -38,7 +38,7 @@ impl Schedule {
             return Err(11);
         }
         let length = u32::from_be_bytes([bytes[1], bytes[2], bytes[3], bytes[4]]) as usize;
-        if length != bytes.len() - COUNTED_FROM || length % 2 == 0 {
+        if length != bytes.len() - COUNTED_FROM || length.is_multiple_of(2) {
             return Err(12);
         }
         let count = bytes[COUNTED_FROM];

@@ -37,7 +37,7 @@ impl<'a> Side<'a> {
         match (reply, before) {
             (Reply::Refused(number), _) => self.met.refused(number),
             (_, Some(before)) => {
-                let branch = before.led_to(self.eye, &self.front, thread as usize, code == FAIL, reply);
+                let branch = before.led_to(self.eye, &self.front, code == FAIL, reply);
                 self.met.stepped(branch);
                 self.branch = Some(branch);
             }

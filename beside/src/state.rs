@@ -14,12 +14,13 @@ pub struct Eye {
     pub nodes: Nodes,
     pub places: Places,
     pub register: u64,
+    pub restore: u64,
 }
 
 impl Eye {
     pub fn new(nodes: Nodes, places: Places) -> Eye {
-        let register = places.named("RegisterCas");
-        Eye { nodes, places, register }
+        let (register, restore) = (places.named("RegisterCas"), places.named("SplitRestore"));
+        Eye { nodes, places, register, restore }
     }
 
     /// The place of the thread's next access: that of its line and kind. None has the number after the last.

@@ -38,7 +38,7 @@ fn explore(compared: &mut Comparison, tally: &mut Tally, count: u8, full: bool) 
     let (began, before) = (Instant::now(), compared.compared);
     let found = explore::run(compared, count, full);
     println!(
-        "{count} threads: {} machines up to renaming, at most {} events deep, {} events compared, {} s",
+        "threads {count}: {} machines up to renaming, at most {} events deep, {} events compared, {} s",
         found.machines,
         found.deepest,
         compared.compared - before,
