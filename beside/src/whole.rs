@@ -2,10 +2,11 @@
 
 use crate::compare::Comparison;
 use crate::coverage::{self, Tally};
+use crate::front::Front;
 use crate::port::Port;
 use crate::schedule::Schedule;
 use crate::state::Eye;
-use crate::{damage, explore, vectors, walks};
+use crate::{damage, explore, stage, vectors, walks};
 use std::time::Instant;
 
 const SEED: u64 = 1;
@@ -24,13 +25,21 @@ pub struct Programs {
     pub replay: Vec<String>,
 }
 
-/// Prints the first difference: the schedule file that shows it, and both lines.
+/// Prints the first difference: the schedule file that shows it, both lines, and where the Rust's threads stand.
 fn report_difference(compared: &Comparison) {
-    if let Some(first) = &compared.first {
-        println!("the first difference: {} threads, event {}", first.schedule.count, first.schedule.events.len() - 1);
-        println!("  file  {}", first.schedule.spelled());
-        println!("  rust  {}", first.rust);
-        println!("  port  {}", first.port);
+    let Some(first) = &compared.first else { return };
+    println!("the first difference: {} threads, event {}", first.schedule.count, first.schedule.events.len() - 1);
+    println!("  file  {}", first.schedule.spelled());
+    println!("  rust  {}", first.rust);
+    println!("  port  {}", first.port);
+    let mut front = Front::new(first.schedule.count as usize);
+    for &(code, thread) in &first.schedule.events {
+        front.event(code, thread);
+    }
+    for thread in 0..front.count() {
+        if let Some(pending) = stage::pending(thread) {
+            println!("  rust's thread {thread}: next {:?}, queue.rs line {}", pending.access.kind, pending.line);
+        }
     }
 }
 
