@@ -1,6 +1,9 @@
-// The bytes of the file that the first argument names, or of standard input where there is none.
+// The bytes of a named file, of the one that the first argument names, or of standard input where there is none.
 ghost use mathlib.Core.Path.{_≡_};
 ghost use Rattle.io.specs.Counts.{Counts};
+
+// One byte more than the largest file that is looked at.
+pub const ENOUGH: usize = 60007;
 
 pub enum Reading {
     Whole,
@@ -46,7 +49,20 @@ fn read(fd: i32, name: &[u8], bytes: &mut [u8]) -> Received
     }
 }
 
-fn named(bytes: &mut [u8]) -> Received
+// The bytes of the file of that name.
+pub fn receive_named(path: &[u8], bytes: &mut [u8]) -> Received
+    ensures { λ r. ⌜ Counts (r .length) (now (bytes .exit)) ⌝ }
+{
+    let fd = os::open_read(path);
+    if fd < 0 {
+        return unreadable(path);
+    }
+    let received = read(fd, path, bytes);
+    libc::close(fd);
+    received
+}
+
+fn argument(bytes: &mut [u8]) -> Received
     ensures { λ r. ⌜ Counts (r .length) (now (bytes .exit)) ⌝ }
 {
     let mut path = io::buffer();
@@ -54,13 +70,7 @@ fn named(bytes: &mut [u8]) -> Received
     if os::errno() != 0 {
         return unreadable(b"argument");
     }
-    let fd = os::open_read(&path[..length]);
-    if fd < 0 {
-        return unreadable(&path[..length]);
-    }
-    let received = read(fd, &path[..length], bytes);
-    libc::close(fd);
-    received
+    receive_named(&path[..length], bytes)
 }
 
 pub fn receive(bytes: &mut [u8]) -> Received
@@ -69,5 +79,5 @@ pub fn receive(bytes: &mut [u8]) -> Received
     if os::arg_count() < 2 {
         return read(libc::STDIN_FILENO, b"standard input", bytes);
     }
-    named(bytes)
+    argument(bytes)
 }

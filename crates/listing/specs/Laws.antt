@@ -223,13 +223,13 @@ module _ (m : Machine) where
 
   listed-trail : Holds FromWord (listedOf m)
   listed-trail =
-      pick-both (Holds FromWord) (goodCount (m .count)) (pick (queued (m .word)) (followedOf m) (listed [])) lost
-      (λ _. pick-both (Holds FromWord) (queued (m .word)) (followedOf m) (listed []) (λ _. set-trail (m .count) m (toNode (m .word))) (λ _. end))
+      pick-both (Holds FromWord) (goodCount (m .count)) (pick (queued (m .word)) (followedOf m (toNode (m .word))) (listed [])) lost
+      (λ _. pick-both (Holds FromWord) (queued (m .word)) (followedOf m (toNode (m .word))) (listed []) (λ _. set-trail (m .count) m (toNode (m .word))) (λ _. end))
       (λ _. tt)
 
   listed-met : queued (m .word) ≡ true → Holds (MetIn m) (listedOf m)
   listed-met queue =
-      pick-both (Holds (MetIn m)) (goodCount (m .count)) (pick (queued (m .word)) (followedOf m) (listed [])) lost
+      pick-both (Holds (MetIn m)) (goodCount (m .count)) (pick (queued (m .word)) (followedOf m (toNode (m .word))) (listed [])) lost
       (λ _. rw queue (set-met (m .count) m (toNode (m .word))))
       (λ _. tt)
 

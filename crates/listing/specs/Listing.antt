@@ -52,13 +52,17 @@ toSet (suc left) m at =
     stand m at
     (pick (isNone (nodeBy m at .tail)) (toSet left m (linkOf m at)) (toTail left m (nodeBy m at .tail) at))
 
--- from the newest waiter, with as many visits as the count
-abbrev pub followedOf : Machine → Listed
-followedOf m = toSet (m .count) m (toNode (m .word))
+-- from a node, with as many visits as the count
+abbrev pub followedOf : Machine → NodeNumber → Listed
+followedOf m head = toSet (m .count) m head
 
--- the thread count is tested first; empty if unqueued
+-- the same, the thread count tested first
+abbrev pub fromHeadOf : Machine → NodeNumber → Listed
+fromHeadOf m head = pick (goodCount (m .count)) (followedOf m head) lost
+
+-- the thread count is tested first; from the newest waiter; empty if unqueued
 abbrev pub listedOf : Machine → Listed
-listedOf m = pick (goodCount (m .count)) (pick (queued (m .word)) (followedOf m) (listed [])) lost
+listedOf m = pick (goodCount (m .count)) (pick (queued (m .word)) (followedOf m (toNode (m .word))) (listed [])) lost
 
 -- an array's elements: the nodes, and none in the others
 abbrev pub padded : List NodeNumber → List NodeNumber

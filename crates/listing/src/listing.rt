@@ -3,7 +3,7 @@ ghost use mathlib.Core.Bool.{true};
 ghost use mathlib.Core.Path.{_≡_};
 ghost use Prim.Native.Nat.{_-_, _≤_};
 ghost use Rattle.state.specs.Machine.{threadLimit};
-ghost use Rattle.listing.specs.Listing.{within, nodeBy, toTail, followedOf, emptyOf, waitersBy, waitersOf};
+ghost use Rattle.listing.specs.Listing.{within, nodeBy, toTail, followedOf, emptyOf, fromHeadOf, waitersBy, waitersOf};
 ghost use Rattle.listing.specs.Way.{Way, joined};
 use state::Machine;
 use state::Node;
@@ -89,13 +89,13 @@ fn to_tail(
     }
 }
 
-// Follows next from the newest waiter to a node whose tail is set, and goes on from there.
-fn follow(m: Machine) -> Waiters
+// Follows next from a node to one whose tail is set, and goes on from there.
+fn follow(m: Machine, head: NodeNumber) -> Waiters
     requires { ⌜ m .count ≤ threadLimit ⌝ }
-    ensures { λ r. ⌜ r ≡ waitersBy (followedOf m) ⌝ }
+    ensures { λ r. ⌜ r ≡ waitersBy (followedOf m head) ⌝ }
 {
     let count = m.count as usize;
-    let mut at = m.word.to_node();
+    let mut at = head;
     let mut stood = [NodeNumber::NONE; THREADS];
     let mut visits: usize = 0;
     let found = loop {
@@ -127,9 +127,19 @@ pub fn listing(m: Machine) -> Waiters
 {
     if good_count(m.count) {
         if m.word.queued() {
-            return follow(m);
+            return follow(m, m.word.to_node());
         }
         return empty(Verdict::Fine);
+    }
+    empty(Verdict::Refused(Refusal::Damaged))
+}
+
+// The same from any node, as a queue that was taken off the word is read.
+pub fn from_head(m: Machine, head: NodeNumber) -> Waiters
+    ensures { λ r. ⌜ r ≡ waitersBy (fromHeadOf m head) ⌝ }
+{
+    if good_count(m.count) {
+        return follow(m, head);
     }
     empty(Verdict::Refused(Refusal::Damaged))
 }

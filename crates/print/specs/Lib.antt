@@ -1,6 +1,9 @@
 pub mod Text
 pub mod Line
-pub mod Laws
 pub mod Replayed
 pub mod Page
 pub mod PageLaws
+pub mod Place
+pub mod Traced
+pub mod Thread
+pub mod Laws

@@ -25,21 +25,21 @@ use Rattle.listing.proofs.listing.follow.Tie as tie
 
 abbrev Inv-loop : tie.InvT-loop
 Inv-loop m count at₀ stood₀ visits₀ at stood visits =
-    Way m stood visits × (joined stood visits (toSet (m .count - visits) m at) ≡ waitersBy (followedOf m))
+    Way m stood visits × (joined stood visits (toSet (m .count - visits) m at) ≡ waitersBy (followedOf m at₀))
 
 abbrev μ-loop : tie.MeasureT-loop
 μ-loop m count at₀ stood₀ visits₀ at stood visits = m .count - visits
 
 -- what was found is right: from the node stood on, the tail is still to be gone to; or the listing is lost
-abbrev Right : Machine → NodeNumber → List NodeNumber → ℕ → Found → Type 0
-Right m at stood visits (Tail tail) =
+abbrev Right : Machine → NodeNumber → NodeNumber → List NodeNumber → ℕ → Found → Type 0
+Right m head at stood visits (Tail tail) =
     Way m stood visits
     × (within (m .count) at ≡ true)
-    × (joined stood visits (toTail (m .count - visits) m tail at) ≡ waitersBy (followedOf m))
-Right m at stood visits NotFound = emptyOf (Refused Damaged) ≡ waitersBy (followedOf m)
+    × (joined stood visits (toTail (m .count - visits) m tail at) ≡ waitersBy (followedOf m head))
+Right m head at stood visits NotFound = emptyOf (Refused Damaged) ≡ waitersBy (followedOf m head)
 
 right : (c : tie.Joined1 Inv-loop μ-loop)
-    → Right (c .before .before .before .before .args .m) (c .before .loop .at) (c .if1 .stood) (c .if1 .visits) (c .if1 .found)
+    → Right (c .before .before .before .args .m) (c .before .before .before .args .head) (c .before .loop .at) (c .if1 .stood) (c .if1 .visits) (c .if1 .found)
 right c =
     let l = c .before .loop in
     ⊎-elim
@@ -62,12 +62,9 @@ right c =
 cast-count : tie.Need-cast-count Inv-loop μ-loop
 cast-count c = omega arith
 
-to-node-requires : tie.Need-to-node-requires Inv-loop μ-loop
-to-node-requires c κs = search needs
-
 loop-holds : tie.Need-loop-holds Inv-loop μ-loop
 loop-holds c =
-    (record { count = c .before .before .pre; bound = omega arith; others = refl }, rw (sub-zero, c .to-node .ensures))
+    (record { count = c .before .pre; bound = omega arith; others = refl }, rw sub-zero)
 
 within-requires : tie.Need-within-requires Inv-loop μ-loop
 within-requires c κs = search needs
@@ -87,8 +84,8 @@ node-by-requires c κs = (c .before .before .before .loop .inv .0 .count, sym (c
 is-none-requires : tie.Need-is-none-requires Inv-loop μ-loop
 is-none-requires c κs = search needs
 
-to-node-requires-2 : tie.Need-to-node-requires-2 Inv-loop μ-loop
-to-node-requires-2 c κs = search needs
+to-node-requires : tie.Need-to-node-requires Inv-loop μ-loop
+to-node-requires c κs = search needs
 
 loop-less : tie.Need-loop-less Inv-loop μ-loop
 loop-less c = omega arith
@@ -99,7 +96,7 @@ loop-again c =
     let in-range = sym (c .before .before .before .before .before .before .within .ensures) ∙ not-false _ (c .before .before .before .before .before .if2 .left) in
     let node = c .before .before .before .before .node-by .ensures in
     let unset = ap (λ n. isNone (n .tail)) (sym node) ∙ sym (c .before .before .is-none .ensures) ∙ not-false _ (c .before .if3 .left) in
-    let next = c .to-node2 .ensures ∙ ap (λ n. toNode (n .next)) node in (
+    let next = c .to-node .ensures ∙ ap (λ n. toNode (n .next)) node in (
       on (l .inv .0) (l .at) (omega arith),
       rw next (set-on (l .inv .0) (l .at) (omega arith) in-range unset) ∙ l .inv .1,
     )
@@ -129,7 +126,6 @@ follow-spec =
     Inv-loop
     μ-loop
     cast-count
-    to-node-requires
     loop-holds
     within-requires
     mul-stood
@@ -137,7 +133,7 @@ follow-spec =
     add-visits
     node-by-requires
     is-none-requires
-    to-node-requires-2
+    to-node-requires
     loop-less
     loop-again
     enum-known-found

@@ -14,14 +14,17 @@ queued-requires c κs = search needs
 
 follow-requires : tie.Need-follow-requires
 follow-requires c κs =
-    in-range (c .before .before .before .before .args .m .count) threadLimit
-    (sym (c .before .before .before .good-count .ensures) ∙ c .before .before .if1 .taken) .1
+    in-range (c .before .before .before .before .before .args .m .count) threadLimit
+    (sym (c .before .before .before .before .good-count .ensures) ∙ c .before .before .before .if1 .taken) .1
+
+to-node-requires : tie.Need-to-node-requires
+to-node-requires c κs = search needs
 
 returns : tie.Need-returns
 returns c =
-    let good = c .before .before .before .if1 .taken in
-    let queue = c .before .if2 .taken in
-    simp (c .follow .ensures, sym (c .before .before .before .before .good-count .ensures), sym (c .before .before .queued .ensures), good, queue)
+    let good = c .before .before .before .before .if1 .taken in
+    let queue = c .before .before .if2 .taken in
+    simp (c .follow .ensures, c .before .to-node .ensures, sym (c .before .before .before .before .before .good-count .ensures), sym (c .before .before .before .queued .ensures), good, queue)
 
 empty-requires : tie.Need-empty-requires
 empty-requires c κs = search needs
@@ -44,6 +47,7 @@ listing-spec =
     (tie.spec
     good-count-requires
     queued-requires
+    to-node-requires
     follow-requires
     returns
     empty-requires

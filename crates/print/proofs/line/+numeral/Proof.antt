@@ -1,6 +1,6 @@
 -- The proof of the cycle of calls {numeral}. The measure is the places left. Assumes nothing.
 use Prim.Native.Nat.{ℕ, _<_, _+_, _-_, _/_, _%_}
-use mathlib.Core.Path.{ap, _∙_}
+use mathlib.Core.Path.{sym, ap, _∙_}
 use native.Mathlib.Omega.{arith}
 use Rattle.print.specs.Text.{decimalBy}
 use Rattle.print.specs.Line.{putOf, putAll}
@@ -32,7 +32,7 @@ numeral-returns : (t : ℕ) → numeral-lts.Need-returns (
 ) (numeral-at t) numeral.Post
 numeral-returns t c =
     let a = c .before .args in
-    put-none (a .line) ∙ ap (putAll (a .line)) (digits-none (a .places) (a .n) (c .if1 .taken))
+    sym (put-none (a .line)) ∙ ap (putAll (a .line)) (digits-none (a .places) (a .n) (c .if1 .taken))
 
 numeral-cast-byte : (t : ℕ) → numeral-lts.Need-cast-byte (
   byte-reads.Asked,

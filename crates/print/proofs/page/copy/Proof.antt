@@ -1,6 +1,6 @@
 -- `print::page::copy` meets its contract: the loop keeps that the first bytes of the line are copied. Assumes nothing.
 use Prim.Native.Nat.{_+_, _-_, _≤_}
-use mathlib.Core.Path.{_≡_, sym, ap, _∙_}
+use mathlib.Core.Path.{_≡_, ap, _∙_}
 use native.Mathlib.Omega.{arith}
 use lib.ListN.{length, getD, set}
 use Rattle.print.specs.Page.{copyOf}

@@ -1,16 +1,16 @@
--- `replay::run` is safe and ends. Assumes nothing.
-use mathlib.Core.Path.{_≡_, refl, _∙_}
+-- `console::runs::run` is safe and ends. Assumes nothing.
+use mathlib.Core.Path.{_≡_}
 use native.Mathlib.Omega.{arith}
 use borrow.Author.Needs.{needs}
 use lib.ListN.{length}
-use Rattle.replay.proofs.run.Statement.{statement}
-use Rattle.replay.proofs.run.Tie as tie
+use Rattle.console.proofs.runs.run.Statement.{statement}
+use Rattle.console.proofs.runs.run.Tie as tie
 
 abbrev Inv-loop : tie.InvT-loop
-Inv-loop s page₀ cursor₀ at₀ turns₀ page cursor at turns = length page ≡ length page₀
+Inv-loop traced s page₀ cursor₀ at₀ turns₀ page cursor at turns = length page ≡ length page₀
 
 abbrev μ-loop : tie.MeasureT-loop
-μ-loop s page₀ cursor₀ at₀ turns₀ page cursor at turns = turns
+μ-loop traced s page₀ cursor₀ at₀ turns₀ page cursor at turns = turns
 
 start-requires : tie.Need-start-requires Inv-loop μ-loop
 start-requires c κs = search needs
@@ -24,8 +24,8 @@ loop-holds c = search needs
 next-requires : tie.Need-next-requires Inv-loop μ-loop
 next-requires c κs = search needs
 
-step-line-requires : tie.Need-step-line-requires Inv-loop μ-loop
-step-line-requires c κs = search needs
+line-of-requires : tie.Need-line-of-requires Inv-loop μ-loop
+line-of-requires c κs = search needs
 
 show-requires : tie.Need-show-requires Inv-loop μ-loop
 show-requires c κs = search needs
@@ -41,6 +41,9 @@ loop-less c = omega arith
 
 loop-again : tie.Need-loop-again Inv-loop μ-loop
 loop-again c = search needs
+
+ended-requires : tie.Need-ended-requires Inv-loop μ-loop
+ended-requires c κs = search needs
 
 flush-requires : tie.Need-flush-requires Inv-loop μ-loop
 flush-requires c κs = search needs
@@ -61,12 +64,13 @@ run-spec =
     add-turns
     loop-holds
     next-requires
-    step-line-requires
+    line-of-requires
     show-requires
     sub-left
     left-requires
     loop-less
     loop-again
+    ended-requires
     flush-requires
     same-length
     returns)

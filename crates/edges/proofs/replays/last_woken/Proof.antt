@@ -1,0 +1,46 @@
+-- `edges::replays::last_woken` is safe and ends. Assumes nothing.
+use native.Mathlib.Omega.{arith}
+use borrow.Author.Needs.{needs}
+use Rattle.edges.proofs.replays.last_woken.Statement.{statement}
+use Rattle.edges.proofs.replays.last_woken.Tie as tie
+
+abbrev Inv-loop : tie.InvT-loop
+Inv-loop thread m₀ node₀ left₀ m node left = Unit {0}
+
+abbrev μ-loop : tie.MeasureT-loop
+μ-loop thread m₀ node₀ left₀ m node left = left
+
+loop-holds : tie.Need-loop-holds Inv-loop μ-loop
+loop-holds c = search needs
+
+woken-requires : tie.Need-woken-requires Inv-loop μ-loop
+woken-requires c κs = search needs
+
+after-requires : tie.Need-after-requires Inv-loop μ-loop
+after-requires c κs = search needs
+
+sub-left : tie.Need-sub-left Inv-loop μ-loop
+sub-left c = omega arith
+
+loop-less : tie.Need-loop-less Inv-loop μ-loop
+loop-less c = omega arith
+
+loop-again : tie.Need-loop-again Inv-loop μ-loop
+loop-again c = search needs
+
+returns : tie.Need-returns Inv-loop μ-loop
+returns c = search needs
+
+pub last-woken-spec : {M : Type 1} → statement M
+last-woken-spec =
+    tie.close
+    (tie.spec
+    Inv-loop
+    μ-loop
+    loop-holds
+    woken-requires
+    after-requires
+    sub-left
+    loop-less
+    loop-again
+    returns)

@@ -1,0 +1,37 @@
+// The trace of every lesson's schedule (lessons/), each under its name.
+use console::Reading;
+use console::input::ENOUGH;
+use console::input::receive_named;
+use console::output::flush;
+use console::output::show;
+use console::runs::too_long;
+use console::runs::trace;
+use print::Line;
+
+fn headed(name: &[u8]) {
+    let mut page = [0u8; 512];
+    let at = show(&mut page, 0, Line::blank().text(b"== ").text(name));
+    flush(&page, at);
+}
+
+fn lesson(name: &[u8]) {
+    headed(name);
+    let mut file = [0u8; ENOUGH];
+    let got = receive_named(name, &mut file);
+    let reading = got.reading;
+    match reading {
+        Reading::Unreadable => (),
+        Reading::Full => too_long(),
+        Reading::Whole => trace(&file[..got.length]),
+    }
+}
+
+fn main() {
+    lesson(b"weak-compare.schedule");
+    lesson(b"reader-count.schedule");
+    lesson(b"stale-next.schedule");
+    lesson(b"barging.schedule");
+    lesson(b"retracted-downgrade.schedule");
+    lesson(b"failed-split.schedule");
+    lesson(b"lost-wake-up.schedule");
+}
