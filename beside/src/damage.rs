@@ -29,7 +29,7 @@ fn port_prints(words: &[String], bytes: &[u8]) -> String {
 
 /// A schedule that is accepted to its end.
 fn good(eye: &Eye, random: &mut Random, length: usize) -> Schedule {
-    let mut kept = Kept { side: Side::new(eye), list: Vec::new(), branches: Vec::new() };
+    let mut kept = Kept { side: Side::new(eye), list: Vec::new(), branches: Vec::new(), refused: false };
     let count = 1 + random.below(THREADS as u64) as u8;
     walks::walk(&mut kept, random, count, length);
     kept.list.pop().expect("the one schedule of the walk")

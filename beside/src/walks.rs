@@ -50,6 +50,8 @@ impl Lean {
         match pending.access.kind {
             Kind::WeakCompare if random.once_in(self.spurious) => FAIL,
             Kind::Park if random.once_in(self.spurious) => FAIL,
+            // refused at any other access
+            _ if random.once_in(8 * self.spurious) => FAIL,
             _ => STEP,
         }
     }
@@ -114,7 +116,7 @@ pub fn run(compared: &mut Comparison, seed: u64, events: u64) -> u64 {
 /// Random schedules of so many events in all, of which each takes a branch that few before it took.
 pub fn schedules(eye: &Eye, seed: u64, events: usize) -> Vec<Schedule> {
     let mut random = Random(seed);
-    let mut kept = Kept { side: Side::new(eye), list: Vec::new(), branches: Vec::new() };
+    let mut kept = Kept { side: Side::new(eye), list: Vec::new(), branches: Vec::new(), refused: true };
     let mut times: HashMap<Branch, u64> = HashMap::new();
     let (mut list, mut total) = (Vec::new(), 0);
     while total < events {
@@ -131,11 +133,12 @@ pub fn schedules(eye: &Eye, seed: u64, events: usize) -> Vec<Schedule> {
     list
 }
 
-/// The Rust's side, and the events that it accepted.
+/// The Rust's side, and the events that it was given: all, or those that it accepted.
 pub struct Kept<'a> {
     pub side: Side<'a>,
     pub list: Vec<Schedule>,
     pub branches: Vec<Branch>,
+    pub refused: bool,
 }
 
 impl Runs for Kept<'_> {
@@ -146,7 +149,8 @@ impl Runs for Kept<'_> {
 
     fn event(&mut self, code: u8, thread: u8) -> Reply {
         let reply = self.side.event(code, thread);
-        if let (Reply::Accepted(..), Some(last)) = (reply, self.list.last_mut()) {
+        let accepted = matches!(reply, Reply::Accepted(..));
+        if let Some(last) = self.list.last_mut().filter(|_| accepted || self.refused) {
             last.events.push((code, thread));
         }
         self.branches.extend(self.side.branch);

@@ -17,24 +17,22 @@ pub struct Carried {
     pub filled: bool,
 }
 
-fn is(b: bool) -> u64 {
+pub(crate) fn is(b: bool) -> u64 {
     if b {
         return 1;
     }
     0
 }
 
-fn waiter_number(writer: bool) -> u64 {
-    if writer {
-        return 2;
-    }
-    1
-}
-
 fn who_number(who: Who) -> u64 {
     match who {
         Who::Leaver => 0,
-        Who::Waiter { writer } => waiter_number(writer),
+        Who::Waiter { writer } => {
+            if writer {
+                return 2;
+            }
+            1
+        }
     }
 }
 
@@ -46,19 +44,12 @@ fn walk_number(walk: Walk) -> u64 {
     }
 }
 
-fn waits(who: Who) -> bool {
-    match who {
-        Who::Leaver => false,
-        Who::Waiter { writer: _ } => true,
+// Of the roles in the queue, a waiter's.
+fn waits(role: u64) -> bool {
+    if role == 0 {
+        return false;
     }
-}
-
-fn walk_waits(walk: Walk) -> bool {
-    match walk {
-        Walk::Queue { who } => waits(who),
-        Walk::ReadUnlock => false,
-        Walk::Downgrade => false,
-    }
+    role < 3
 }
 
 fn outside(place: u64, role: u64, reloads: u8, seen: Word) -> Carried {
@@ -78,27 +69,15 @@ fn filled(mut at: Carried) -> Carried {
     at
 }
 
-fn queue(place: u64, who: Who, seen: Word, first: NodeNumber, second: u64) -> Carried {
+fn queue(place: u64, role: u64, seen: Word, first: NodeNumber, second: u64) -> Carried {
     Carried {
         place: place,
-        role: who_number(who),
+        role: role,
         reloads: 0,
         seen: seen.0,
         first: first.0,
         second: second,
-        filled: waits(who),
-    }
-}
-
-fn walking(place: u64, walk: Walk, seen: Word, first: NodeNumber, second: NodeNumber) -> Carried {
-    Carried {
-        place: place,
-        role: walk_number(walk),
-        reloads: 0,
-        seen: seen.0,
-        first: first.0,
-        second: second.0,
-        filled: walk_waits(walk),
+        filled: waits(role),
     }
 }
 
@@ -133,37 +112,37 @@ pub(crate) fn at_place(place: Place) -> Carried {
             walk,
             seen,
             current,
-        } => walking(9, walk, seen, current, none),
+        } => queue(9, walk_number(walk), seen, current, 0),
         Place::WalkNext {
             walk,
             seen,
             current,
-        } => walking(10, walk, seen, current, none),
+        } => queue(10, walk_number(walk), seen, current, 0),
         Place::WalkPrev {
             walk,
             seen,
             current,
             next,
-        } => walking(11, walk, seen, current, next),
-        Place::WalkHead { walk, seen, tail } => walking(12, walk, seen, tail, none),
-        Place::QueueCas { who, seen } => queue(13, who, seen, none, 0),
-        Place::SplitPrev { who, seen, tail } => queue(14, who, seen, tail, 0),
+        } => queue(11, walk_number(walk), seen, current, next.0),
+        Place::WalkHead { walk, seen, tail } => queue(12, walk_number(walk), seen, tail, 0),
+        Place::QueueCas { who, seen } => queue(13, who_number(who), seen, none, 0),
+        Place::SplitPrev { who, seen, tail } => queue(14, who_number(who), seen, tail, 0),
         Place::SplitStore {
             who,
             seen,
             tail,
             prev,
-        } => queue(15, who, seen, prev, tail.0),
-        Place::SplitCas { who, seen, tail } => queue(16, who, seen, tail, 0),
+        } => queue(15, who_number(who), seen, prev, tail.0),
+        Place::SplitCas { who, seen, tail } => queue(16, who_number(who), seen, tail, 0),
         Place::SplitRestore {
             who,
             seen,
             tail,
             reported,
-        } => queue(17, who, seen, tail, reported.0),
-        Place::TakeCas { who, seen, tail } => queue(18, who, seen, tail, 0),
-        Place::WakePrev { who, current } => queue(19, who, w, current, 0),
-        Place::WakeStore { who, current, prev } => queue(20, who, w, current, prev.0),
+        } => queue(17, who_number(who), seen, tail, reported.0),
+        Place::TakeCas { who, seen, tail } => queue(18, who_number(who), seen, tail, 0),
+        Place::WakePrev { who, current } => queue(19, who_number(who), w, current, 0),
+        Place::WakeStore { who, current, prev } => queue(20, who_number(who), w, current, prev.0),
         Place::ReadUnlockLoad => outside(21, 0, 0, w),
         Place::ReadUnlockCas { seen } => outside(22, 0, 0, seen),
         Place::Subtract { seen, tail } => subtracting(seen, tail),

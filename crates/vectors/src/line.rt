@@ -3,6 +3,7 @@ ghost use Prim.Native.Nat.{_≤_};
 ghost use Rattle.state.specs.Machine.{threadLimit};
 use crate::carried::Carried;
 use crate::carried::at_place;
+use crate::carried::is;
 use crate::put;
 use state::Access;
 use state::Answer;
@@ -42,29 +43,29 @@ fn put_woken(out: &mut [u8], at: usize, woken: Owner) -> usize {
     }
 }
 
-fn put_accepted(out: &mut [u8], at: usize, answer: Answer, woken: Owner) -> usize {
-    let answered = put_answer(out, at, answer);
-    put_woken(out, answered, woken)
-}
-
-fn put_refused(out: &mut [u8], at: usize, number: u8) -> usize {
-    let refused = put::text(out, at, b"refused");
-    put::number(out, refused, number as u64)
-}
-
 fn put_reply(out: &mut [u8], at: usize, reply: Reply) -> usize {
     match reply {
-        Reply::Accepted { answer, woken } => put_accepted(out, at, answer, woken),
-        Reply::Refused(refusal) => put_refused(out, at, refusal.number()),
+        Reply::Accepted { answer, woken } => {
+            let answered = put_answer(out, at, answer);
+            put_woken(out, answered, woken)
+        }
+        Reply::Refused(refusal) => {
+            let refused = put::text(out, at, b"refused");
+            put::number(out, refused, refusal.number() as u64)
+        }
     }
 }
+
+const STORE: u64 = 2;
+
+const WEAK_COMPARE: u64 = 3;
 
 fn kind_number(kind: Kind) -> u64 {
     match kind {
         Kind::Nothing => 0,
         Kind::Load => 1,
-        Kind::Store => 2,
-        Kind::WeakCompare => 3,
+        Kind::Store => STORE,
+        Kind::WeakCompare => WEAK_COMPARE,
         Kind::StrongCompare => 4,
         Kind::FetchOr => 5,
         Kind::Subtract => 6,
@@ -74,18 +75,14 @@ fn kind_number(kind: Kind) -> u64 {
 }
 
 // What a weak compare expects, and what a store stores.
-fn operand(kind: Kind, c: Carried) -> u64 {
-    match kind {
-        Kind::WeakCompare => c.seen,
-        Kind::Store => c.first,
-        Kind::Nothing => 0,
-        Kind::Load => 0,
-        Kind::StrongCompare => 0,
-        Kind::FetchOr => 0,
-        Kind::Subtract => 0,
-        Kind::Complete => 0,
-        Kind::Park => 0,
+fn operand(kind: u64, c: Carried) -> u64 {
+    if kind == WEAK_COMPARE {
+        return c.seen;
     }
+    if kind == STORE {
+        return c.first;
+    }
+    0
 }
 
 fn put_two(out: &mut [u8], at: usize, a: u64, b: u64) -> usize {
@@ -108,16 +105,16 @@ fn put_location(out: &mut [u8], at: usize, location: Location) -> usize {
 fn put_access(out: &mut [u8], at: usize, access: Access, c: Carried) -> usize {
     let kind = access.kind;
     let location = access.location;
-    let placed = put_two(out, at, c.place, kind_number(kind));
+    let n = kind_number(kind);
+    let placed = put_two(out, at, c.place, n);
     let located = put_location(out, placed, location);
-    put::number(out, located, operand(kind, c))
+    put::number(out, located, operand(n, c))
 }
 
 fn put_node(out: &mut [u8], at: usize, n: Node) -> usize {
     let next = put::number(out, at, n.next.0);
     let links = put_two(out, next, n.prev.0, n.tail.0);
-    let writer = put::flag(out, links, n.writer);
-    put::flag(out, writer, n.completed)
+    put_two(out, links, is(n.writer), is(n.completed))
 }
 
 fn holding_number(holding: Holding) -> u64 {
@@ -155,8 +152,7 @@ fn put_thread(
     let holding = t.holding;
     let c = at_place(place);
     let opened = put::text(out, at, b" |");
-    let tokened = put::flag(out, opened, t.token);
-    let held = put::number(out, tokened, holding_number(holding));
+    let held = put_two(out, opened, is(t.token), holding_number(holding));
     let accessed = put_access(out, held, Access::of(me, place), c);
     let noded = put_filled(out, accessed, c, n);
     if inner {

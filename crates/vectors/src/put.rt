@@ -28,10 +28,3 @@ pub(crate) fn number(out: &mut [u8], at: usize, n: u64) -> usize {
     let k = io::decimal(n, &mut digits);
     text(out, spaced, &digits[..k])
 }
-
-pub(crate) fn flag(out: &mut [u8], at: usize, b: bool) -> usize {
-    if b {
-        return number(out, at, 1);
-    }
-    number(out, at, 0)
-}
