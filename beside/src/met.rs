@@ -101,8 +101,9 @@ pub struct Before {
     kind: Kind,
     thread: usize,
     token: bool,
-    /// has the word changed since the thread's last access?
+    /// has the word changed since the thread's last access, and is its newest waiter another than a compare expects?
     moved: bool,
+    other_head: bool,
 }
 
 impl Before {
@@ -110,7 +111,9 @@ impl Before {
         let pending = stage::pending(thread)?;
         let call = call_name(front.call(thread), front.holding(thread));
         let (token, moved) = (stage::token(thread), front.last_word(thread) != stage::word());
-        Some(Before { call, from: Spot::of(eye, &pending), kind: pending.access.kind, thread, token, moved })
+        let other_head = eye.nodes.number(pending.access.operand) != eye.nodes.number(stage::word());
+        let (from, kind) = (Spot::of(eye, &pending), pending.access.kind);
+        Some(Before { call, from, kind, thread, token, moved, other_head })
     }
 
     /// What the access came to.
@@ -120,15 +123,16 @@ impl Before {
             (_, true, _) => "no cause",
             (Kind::Park, ..) => "token",
             (Kind::Complete, ..) if happened.woken == Some(self.thread) => "itself",
+            (_, _, Some(false)) if self.other_head && self.at(eye.split) => "another head",
             (_, _, Some(false)) => "another",
             (_, _, Some(true)) => same(eye.nodes.word(stage::word())),
-            (_, _, None) if self.moved && self.restores(eye) => "moved on",
+            (_, _, None) if self.moved && self.at(eye.restore) => "moved on",
             (_, _, None) => "-",
         }
     }
 
-    fn restores(&self, eye: &Eye) -> bool {
-        self.from == Spot::Place(eye.restore, None)
+    fn at(&self, place: u64) -> bool {
+        self.from == Spot::Place(place, None)
     }
 
     /// The branch that an accepted step took from here.

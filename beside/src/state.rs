@@ -14,13 +14,14 @@ pub struct Eye {
     pub nodes: Nodes,
     pub places: Places,
     pub register: u64,
+    pub split: u64,
     pub restore: u64,
 }
 
 impl Eye {
     pub fn new(nodes: Nodes, places: Places) -> Eye {
-        let (register, restore) = (places.named("RegisterCas"), places.named("SplitRestore"));
-        Eye { nodes, places, register, restore }
+        let [register, split, restore] = ["RegisterCas", "SplitCas", "SplitRestore"].map(|name| places.named(name));
+        Eye { nodes, places, register, split, restore }
     }
 
     /// The place of the thread's next access: that of its line and kind. None has the number after the last.

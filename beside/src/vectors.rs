@@ -116,6 +116,24 @@ pub fn chosen(eye: &Eye, seed: u64) -> Vec<Schedule> {
             list.push(schedule);
         }
     }
+    needed(&mut side, list)
+}
+
+/// Without the schedules, but for the refusals, whose branches the others take.
+fn needed(side: &mut Side, mut list: Vec<Schedule>) -> Vec<Schedule> {
+    let mut times: HashMap<Branch, u64> = HashMap::new();
+    for schedule in &list {
+        taken(side, schedule).into_iter().for_each(|branch| *times.entry(branch).or_default() += 1);
+    }
+    let first = refusals().len();
+    for at in (first..list.len()).rev() {
+        let mut fewer = times.clone();
+        taken(side, &list[at]).iter().for_each(|branch| *fewer.entry(*branch).or_default() -= 1);
+        if fewer.values().all(|&n| n > 0) {
+            times = fewer;
+            list.remove(at);
+        }
+    }
     list
 }
 
