@@ -5,8 +5,6 @@ use crate::output::show;
 use print::Line;
 use print::replayed::refused_line;
 use print::replayed::step_line;
-use print::thread::thread_line;
-use print::traced::traced_line;
 use schedule::Checked;
 use schedule::Cursor;
 use schedule::FileRefusal;
@@ -18,6 +16,8 @@ use schedule::file::check;
 use schedule::file::events;
 use state::Machine;
 use state::Reply;
+use traced::event::traced_line;
+use traced::thread::thread_line;
 use word::ThreadNumber;
 
 fn accepted(reply: Reply) -> bool {

@@ -8,3 +8,5 @@ pub mod Event
 pub mod Laws
 pub mod Effect
 pub mod Determined
+pub mod Stored
+pub mod Still

@@ -1,21 +1,15 @@
 -- Laws of a line and of a number's digits: text after text; a line's text is what was put in it, where it fits. Assumes nothing.
-use Prim.Native.Nat.{ℕ, zero, suc, _+_, _-_, _*_, _/_, _%_, _^_, _≤_, _<_}
-use mathlib.Core.Bool.{Bool, true}
+use Prim.Native.Nat.{ℕ, zero, suc, _+_, _-_, _/_, _%_, _≤_, _<_}
 use mathlib.Core.Path.{_≡_, refl, sym, ap, _∙_}
-use mathlib.Core.List.{List, [], _∷_, _++_, append-assoc, append-nil}
+use mathlib.Core.List.{List, [], _∷_, _++_}
 use native.Mathlib.Nat.{suc-ne-zero}
 use native.Mathlib.Omega.{arith}
 use borrow.Author.Tests.{lt-ltb, le-ltb}
-use lib.ListN.{length, take, getD, set, replicate, length-set}
-use lib.Seq.{take-suc, take-suc-set}
+use lib.ListN.{length, take, getD}
+use lib.Seq.{take-suc}
 use Rattle.word.specs.Cases.{pick-yes, pick-no}
-use Rattle.word.specs.Number.{none}
-use Rattle.word.specs.declared.number.NodeNumber.{NodeNumber}
-use Rattle.state.specs.declared.machine.Machine.{Machine}
 use Rattle.print.specs.Text.{decimalBy}
-use Rattle.print.specs.Traced.{nodeText, nodesText}
-use Rattle.print.specs.Thread.{rouserText, rousersText}
-use Rattle.print.specs.Line.{lineWidth, blankOf, putOf, putAll, shown}
+use Rattle.print.specs.Line.{putOf, putAll}
 use Rattle.print.specs.declared.line.Line.{Line}
 
 -- ── text after text ──
@@ -62,27 +56,3 @@ digits-more zero n h k = absurd (omega (arith, h))
 digits-more (suc places) n h k =
     let e : suc places - 1 ≡ places = omega arith in
     pick-no _ _ _ _ (le-ltb n 10 k) (ap (λ (p : ℕ). decimalBy p (n / 10) ++ ((48 + n % 10) ∷ [])) e)
-
--- ── the nodes of a listing ──
-
-pub nodes-none : (ns : List NodeNumber) → [] ≡ nodesText 0 ns
-unfolding nodesText
-nodes-none ns = refl
-
-pub nodes-more : (k : ℕ) (ns : List NodeNumber) → nodesText k ns ++ nodeText (getD ns k none) ≡ nodesText (k + 1) ns
-unfolding nodesText
-nodes-more k ns =
-    let e : suc k ≡ k + 1 = omega arith in
-    ap (λ (i : ℕ). nodesText i ns) e
-
--- ── the threads that a waiter waits for ──
-
-pub rousers-none : (m : Machine) → [] ≡ rousersText 0 m
-unfolding rousersText
-rousers-none m = refl
-
-pub rousers-more : (k : ℕ) (m : Machine) → rousersText k m ++ rouserText m k ≡ rousersText (k + 1) m
-unfolding rousersText
-rousers-more k m =
-    let e : suc k ≡ k + 1 = omega arith in
-    ap (λ (i : ℕ). rousersText i m) e

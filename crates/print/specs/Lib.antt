@@ -3,7 +3,6 @@ pub mod Line
 pub mod Replayed
 pub mod Page
 pub mod PageLaws
-pub mod Place
-pub mod Traced
-pub mod Thread
 pub mod Laws
+pub mod Shown
+pub mod Determined

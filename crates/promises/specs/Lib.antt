@@ -7,6 +7,5 @@ pub mod RefusalProofs
 pub mod Obeys
 pub mod Happened
 pub mod Places
-pub mod Stored
 pub mod Changes
 pub mod Theorems

@@ -4,7 +4,6 @@ use Prim.Native.Nat.{ℕ, _+_}
 use mathlib.Core.Bool.{Bool, true, false, not}
 use mathlib.Core.Logic.{_⊎_}
 use mathlib.Core.Path.{_≡_}
-use lib.ListN.{length}
 use Rattle.word.specs.Flags.{locked, queued, downgraded}
 use Rattle.word.specs.Number.{thread}
 use Rattle.word.specs.declared.number.Owner.{Owner}
@@ -12,7 +11,7 @@ use Rattle.word.specs.declared.number.Owner.the-variants.{Thread}
 use Rattle.word.specs.declared.number.ThreadNumber.{ThreadNumber}
 use Rattle.word.specs.declared.flags.Word.{Word}
 use Rattle.state.specs.Access.{accessOf, touchedOf}
-use Rattle.state.specs.Machine.{threadLimit, threadAt, nodeAt}
+use Rattle.state.specs.Machine.{Sized, threadAt, nodeAt}
 use Rattle.state.specs.Node.{filledOf}
 use Rattle.state.specs.declared.access.Access.{Access}
 use Rattle.state.specs.declared.access.Kind.the-variants.{WeakCompare}
@@ -26,11 +25,6 @@ use Rattle.lock.specs.Event.{eventOf}
 use Rattle.lock.specs.Effect.{effectOf, keeps, stands, heldAfter, grants, wordChanged}
 use Rattle.promises.specs.Refusals.{and, begins, steps, numberGiven, firstOf, refusalRows}
 use Rattle.promises.specs.Shared.{Unless, writesWord, takesToken, keptBut, fills, tries, acquires, isYes, isDone}
-
--- the arrays of a machine have their declared length, as every value that the code can hold does
-pub record Sized (m : Machine) : Type 0 where
-  pub nodes : length (m .nodes) ≡ threadLimit
-  pub threads : length (m .threads) ≡ threadLimit
 
 abbrev pub after : Machine → ℕ → ThreadNumber → Machine
 after m code t = eventOf m code t .machine

@@ -18,7 +18,7 @@ use Rattle.word.specs.declared.number.Owner.the-variants.{Nobody, Thread as Som
 use Rattle.word.specs.declared.number.NodeNumber.{NodeNumber}
 use Rattle.word.specs.declared.number.ThreadNumber.{ThreadNumber}
 use Rattle.state.specs.Access.{accessOf, touchedOf}
-use Rattle.state.specs.Machine.{blankThread, threadAt, nodeAt}
+use Rattle.state.specs.Machine.{Sized, blankThread, threadAt, nodeAt}
 use Rattle.state.specs.Node.{blankNode}
 use Rattle.state.specs.declared.access.Kind.{Kind}
 use Rattle.state.specs.declared.access.Location.{Location}
@@ -49,9 +49,10 @@ use Rattle.promises.specs.Shared.{Unless, Obeys, lockDone, keptBut, kept
 use Rattle.promises.specs.Obeys.{All, obeys}
 use Rattle.promises.specs.Changes.{Moves, moves}
 use Rattle.promises.specs.Happened.{Begun, Stepping, Happened, begun, stepped, happened}
-use Rattle.promises.specs.Places.{fills-own, idle-is, effect-kind, still-lock, still-queue}
-use Rattle.promises.specs.Stored.{get-set, woken-count, woken-word, woken-nodes, Woken, as-before, with-token, woken-thread, woken-place, woken-holding, woken-long}
-use Rattle.promises.specs.Statements.{RefusalTable, RefusedUnchanged, Sized, after, placeOf, accessAt, NodeAfter, same, accessed, filled, TokenAfter, kept, taken, set as token-set, AtAccess, OneAccess, NothingShared, BeginSharesNothing, FailureWritesNothing, Little, ChangesLittle, HoldingFollowsEffect, RefusedHasNoEffect, HoldingChangesAtTheWord, HoldingChangesWithTheWord, asserted, AnsweredAtTheGrant, StaysSized, subtracting}
+use Rattle.promises.specs.Places.{fills-own, effect-kind}
+use Rattle.lock.specs.Still.{idle-is, still-lock, still-queue}
+use Rattle.lock.specs.Stored.{get-set, woken-count, woken-word, woken-nodes, Woken, as-before, with-token, woken-thread, woken-place, woken-holding, woken-long}
+use Rattle.promises.specs.Statements.{RefusalTable, RefusedUnchanged, after, placeOf, accessAt, NodeAfter, same, accessed, filled, TokenAfter, kept, taken, set as token-set, AtAccess, OneAccess, NothingShared, BeginSharesNothing, FailureWritesNothing, Little, ChangesLittle, HoldingFollowsEffect, RefusedHasNoEffect, HoldingChangesAtTheWord, HoldingChangesWithTheWord, asserted, AnsweredAtTheGrant, StaysSized, subtracting}
 
 -- ── small laws ──
 

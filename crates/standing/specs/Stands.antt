@@ -1,7 +1,7 @@
 -- Where a thread's node stands, in document 01's words: in the queue (the waiter listing), set aside by the owner of the
 -- queue lock, or in one waker's list. Assumes nothing.
 use Prim.Native.Nat.{ℕ, zero, suc}
-use mathlib.Core.Bool.{Bool, true, false}
+use mathlib.Core.Bool.{Bool, false}
 use Rattle.word.specs.Base.{pick}
 use Rattle.word.specs.Number.{thread, nodeOf}
 use Rattle.word.specs.declared.number.ThreadNumber.{ThreadNumber}

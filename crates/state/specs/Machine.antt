@@ -1,8 +1,9 @@
 -- The machine and its limit; a fresh one; one handed back with a refusal. Assumes nothing.
 use Prim.Native.Nat.{ℕ}
 use mathlib.Core.Bool.{Bool, false}
+use mathlib.Core.Path.{_≡_}
 use lib.Dec.{ltb, leb}
-use lib.ListN.{replicate, getD}
+use lib.ListN.{length, replicate, getD}
 use Rattle.word.specs.Base.{pick}
 use Rattle.word.specs.Flags.{word}
 use Rattle.state.specs.Node.{blankNode}
@@ -34,6 +35,11 @@ threadAt m t = getD (m .threads) t blankThread
 
 abbrev pub nodeAt : Machine → ℕ → Node
 nodeAt m k = getD (m .nodes) k blankNode
+
+-- the arrays of a machine have their declared length, as every value that the code can hold does
+pub record Sized (m : Machine) : Type 0 where
+  pub nodes : length (m .nodes) ≡ threadLimit
+  pub threads : length (m .threads) ≡ threadLimit
 
 -- word 0, all threads idle, no tokens, nothing held
 abbrev pub madeOf : ℕ → Machine

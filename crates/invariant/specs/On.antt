@@ -1,0 +1,111 @@
+-- Moves of a thread on the queue, or on what it has taken off: `stroll`, on without a change of the word, of tickets or of what it holds. Assumes nothing.
+use Prim.Native.Nat.{ℕ, suc, _<_}
+use mathlib.Core.Bool.{Bool, true, false}
+use mathlib.Core.Logic.{inl}
+use mathlib.Core.Path.{_≡_, refl, sym, _∙_, subst}
+use Rattle.word.specs.declared.flags.Word.{Word}
+use Rattle.word.specs.declared.number.NodeNumber.{NodeNumber}
+use Rattle.state.specs.Node.{withPrev, withTail}
+use Rattle.state.specs.declared.holding.Holding.{Holding}
+use Rattle.state.specs.declared.node.Node.{Node}
+use Rattle.state.specs.declared.place.Place.{Place}
+use Rattle.state.specs.declared.place.Walk.{Walk}
+use Rattle.state.specs.declared.place.Who.{Who}
+use Rattle.queue.specs.Tests.{never}
+use Rattle.queue.specs.Updates.{upd, upd-cases, map-upd, map-keep}
+use Rattle.queue.specs.Tickets.{Ghost}
+use Rattle.queue.specs.Queue.{Links, setPv, setTl}
+use Rattle.queue.specs.Roles.{Role, filled}
+use Rattle.queue.specs.Invariant as Q
+use Rattle.invariant.specs.Table.{handsOff, About, walking, owning, waking, about, Lock, aboutAt, linksOf, waitOf, Allowed}
+use Rattle.invariant.specs.Invariant.{Real, queueOf, Inv}
+use Rattle.invariant.specs.Frames.{moved, waits-as, view, stay}
+use Rattle.invariant.specs.Kept.{placed}
+
+-- ── places alike but for what is known of the queue ──
+
+pub record Alike (a b : About) : Type 0 where
+  pub unfilled : filled (b .role) ≡ false
+  pub owner : b .owner ≡ a .owner
+  pub reader : b .reader ≡ a .reader
+  pub registered : b .registered ≡ a .registered
+  pub asleep : b .asleep ≡ false
+  pub may : (h : Holding) → Allowed (a .may) h → Allowed (b .may) h
+  pub ok : b .ok ≡ true
+  pub leaves : b .leaves ≡ a .leaves
+  pub needsQueue : b .needsQueue ≡ false
+  pub contends : b .contends ≡ a .contends
+
+pub alike-walk : (k : Walk) (seen seen′ : Word) (r r′ : Role) → filled r′ ≡ false → Alike (walking k seen r) (walking k seen′ r′)
+alike-walk k seen seen′ r r′ f = record { unfilled = f; owner = refl; reader = refl; registered = refl; asleep = refl; may = λ h a. a; ok = refl; leaves = refl; needsQueue = refl; contends = refl }
+
+pub alike-own : (who : Who) (seen seen′ : Word) (r r′ : Role) (ok ok′ : Bool) → filled r′ ≡ false → ok′ ≡ true → Alike (owning who seen r ok) (owning who seen′ r′ ok′)
+alike-own who seen seen′ r r′ ok ok′ f e = record { unfilled = f; owner = refl; reader = refl; registered = refl; asleep = refl; may = λ h a. a; ok = e; leaves = refl; needsQueue = refl; contends = refl }
+
+pub alike-wake : (who : Who) (r r′ : Role) → filled r′ ≡ false → Alike (waking who r) (waking who r′)
+alike-wake who r r′ f = record { unfilled = f; owner = refl; reader = refl; registered = refl; asleep = refl; may = λ h a. a; ok = refl; leaves = refl; needsQueue = refl; contends = refl }
+
+-- ── a store of a link changes neither completed nor next ──
+
+pub record Linked (nd nd′ : ℕ → Node) (l : Links) : Type 0 where
+  pub completed : (k : ℕ) → nd′ k .completed ≡ nd k .completed
+  pub next : (k : ℕ) → nd′ k .next ≡ nd k .next
+  pub links : linksOf nd′ ≡ l
+
+pub unlinked : (nd : ℕ → Node) → Linked nd nd (linksOf nd)
+unlinked nd = record { completed = λ k. refl; next = λ k. refl; links = refl }
+
+module _ (nd : ℕ → Node) (k : ℕ) (z : NodeNumber) where
+  pub linked-tail : Linked nd (upd nd k (withTail (nd k) z)) (setTl (linksOf nd) k (z .0))
+  linked-tail = record {
+    completed = upd-cases (λ j y. y .completed ≡ nd j .completed) nd k (withTail (nd k) z) refl (λ j ne. refl);
+    next = upd-cases (λ j y. y .next ≡ nd j .next) nd k (withTail (nd k) z) refl (λ j ne. refl);
+    links = λ i. record {
+      nx = map-keep (λ y. y .next .0) nd k (withTail (nd k) z) refl i;
+      pv = map-keep (λ y. y .prev .0) nd k (withTail (nd k) z) refl i;
+      tl = map-upd (λ y. y .tail .0) nd k (withTail (nd k) z) i;
+    };
+  }
+
+  pub linked-prev : Linked nd (upd nd k (withPrev (nd k) z)) (setPv (linksOf nd) k (z .0))
+  linked-prev = record {
+    completed = upd-cases (λ j y. y .completed ≡ nd j .completed) nd k (withPrev (nd k) z) refl (λ j ne. refl);
+    next = upd-cases (λ j y. y .next ≡ nd j .next) nd k (withPrev (nd k) z) refl (λ j ne. refl);
+    links = λ i. record {
+      nx = map-keep (λ y. y .next .0) nd k (withPrev (nd k) z) refl i;
+      pv = map-upd (λ y. y .prev .0) nd k (withPrev (nd k) z) i;
+      tl = map-keep (λ y. y .tail .0) nd k (withPrev (nd k) z) refl i;
+    };
+  }
+
+-- ── on ──
+
+module _ (n : ℕ) (s : Lock) (g : Ghost) (i : Inv n s g) (t : ℕ) (tin : t < n) (p : Place) (a : Alike (aboutAt s t) (about p)) (nd : ℕ → Node) (l : Links) (k : Linked (s .nd) nd l) where
+  pub waits-alike : waitOf (upd (s .th) t (placed (s .th t) p)) nd ≡ waitOf (s .th) (s .nd)
+  waits-alike = waits-as s t (placed (s .th t) p) nd (waitOf (s .th) (s .nd)) refl (rw (a .registered, k .completed (suc t))) (λ u ne. rw (k .completed (suc u)))
+
+  -- the queue's step is the lock's
+  pub seen-as : (g′ : Ghost) (w : Word) → Q.Inv g′ (Q.moved (queueOf s) t l (waitOf (s .th) (s .nd)) (about p .role))
+      → Q.Inv g′ (queueOf (moved s t w (placed (s .th t) p) nd))
+  seen-as g′ w q = subst (λ z. Q.Inv g′ z) (sym (view s t (placed (s .th t) p) nd w l (waitOf (s .th) (s .nd)) (k .links) waits-alike)) q
+
+  pub stroll : (Real n s → about p .owner ≡ true → handsOff (about p .seen) ≡ true)
+      → Q.Inv g (Q.moved (queueOf s) t l (waitOf (s .th) (s .nd)) (about p .role)) → Inv n (moved s t (s .word) (placed (s .th t) p) nd) g
+  stroll calm q = stay n s g t (placed (s .th t) p) nd i (record {
+    queue = seen-as g (s .word) q;
+    inside = tin;
+    holding = refl;
+    completed = λ u ne. k .completed (suc u);
+    next = λ r. k .next (g .log (g .lo));
+    owner = a .owner;
+    leaving = rw (a .leaves);
+    may = a .may (s .th t .holding) (i .holding t);
+    needs = never (a .needsQueue);
+    plain = λ e. i .plain t (sym (a .reader) ∙ e);
+    calm = calm;
+    fits = a .ok;
+    clear = never (a .unfilled);
+    token = never (a .asleep);
+    contending = λ e. a .contends ∙ e;
+    called = λ e d. inl (a .registered ∙ e, k .completed (suc t) ∙ d);
+  })

@@ -1,0 +1,11 @@
+pub mod Tests
+pub mod Updates
+pub mod Sums
+pub mod Queue
+pub mod Tickets
+pub mod Roles
+pub mod Invariant
+pub mod Walking
+pub mod Registering
+pub mod Taking
+pub mod Reads

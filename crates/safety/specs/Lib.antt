@@ -1,0 +1,14 @@
+pub mod Lists
+pub mod Intervals
+pub mod Held
+pub mod Statements
+pub mod Runs
+pub mod Plain
+pub mod Stuck
+pub mod ListMoves
+pub mod Members
+pub mod Registrations
+pub mod Counts
+pub mod Spots
+pub mod Replays
+pub mod Theorems

@@ -1,0 +1,45 @@
+// Replays a schedule file a hundred times over and prints nothing of it, so that the replay alone can be timed.
+use console::Reading;
+use console::input::ENOUGH;
+use console::input::receive;
+use console::output::flush;
+use console::output::show;
+use print::Line;
+use schedule::whole::replay_file;
+
+const TIMES: u64 = 100;
+
+fn sum(a: u64, b: u64) -> u64 {
+    if b <= u64::MAX - a {
+        return a + b;
+    }
+    u64::MAX
+}
+
+fn over(s: &[u8]) -> u64 {
+    let mut run: u64 = 0;
+    let mut left = TIMES;
+    while left > 0 {
+        let done = replay_file(s);
+        run = sum(run, done.run as u64);
+        left = left - 1;
+    }
+    run
+}
+
+fn tell(events: u64) {
+    let mut page = [0u8; 512];
+    let at = show(&mut page, 0, Line::blank().decimal(events).text(b" events"));
+    flush(&page, at);
+}
+
+fn main() {
+    let mut file = [0u8; ENOUGH];
+    let got = receive(&mut file);
+    let reading = got.reading;
+    match reading {
+        Reading::Unreadable => (),
+        Reading::Full => tell(0),
+        Reading::Whole => tell(over(&file[..got.length])),
+    }
+}

@@ -1,0 +1,36 @@
+-- A place by the name it has in docs/PLACES.md; asleep means at park. Assumes nothing.
+use Prim.Native.Nat.{ℕ}
+use mathlib.Core.List.{List}
+use Rattle.state.specs.declared.place.Place.{Place}
+use Rattle.state.specs.declared.place.Place.the-variants.{Idle, TryReadLoad, TryReadCas, TryWriteOr, ContendLoad, ContendCas, RegisterCas, CompletedLoad, Park, WalkTail, WalkNext, WalkPrev, WalkHead, QueueCas, SplitPrev, SplitStore, SplitCas, SplitRestore, TakeCas, WakePrev, WakeStore, ReadUnlockLoad, ReadUnlockCas, Subtract, WriteUnlockCas, ReleaseCas, DowngradeCas, DowngradeSlowCas}
+use Rattle.print.specs.Text.{ascii}
+
+abbrev pub placeText : Place → List ℕ
+placeText Idle = ascii "idle"
+placeText (TryReadLoad _) = ascii "at TryReadLoad"
+placeText (TryReadCas _ _) = ascii "at TryReadCas"
+placeText (TryWriteOr _) = ascii "at TryWriteOr"
+placeText (ContendLoad _ _) = ascii "at ContendLoad"
+placeText (ContendCas _ _ _) = ascii "at ContendCas"
+placeText (RegisterCas _ _ _) = ascii "at RegisterCas"
+placeText (CompletedLoad _) = ascii "at CompletedLoad"
+placeText (Park _) = ascii "asleep at Park"
+placeText (WalkTail _ _ _) = ascii "at WalkTail"
+placeText (WalkNext _ _ _) = ascii "at WalkNext"
+placeText (WalkPrev _ _ _ _) = ascii "at WalkPrev"
+placeText (WalkHead _ _ _) = ascii "at WalkHead"
+placeText (QueueCas _ _) = ascii "at QueueCas"
+placeText (SplitPrev _ _ _) = ascii "at SplitPrev"
+placeText (SplitStore _ _ _ _) = ascii "at SplitStore"
+placeText (SplitCas _ _ _) = ascii "at SplitCas"
+placeText (SplitRestore _ _ _ _) = ascii "at SplitRestore"
+placeText (TakeCas _ _ _) = ascii "at TakeCas"
+placeText (WakePrev _ _) = ascii "at WakePrev"
+placeText (WakeStore _ _ _) = ascii "at WakeStore"
+placeText ReadUnlockLoad = ascii "at ReadUnlockLoad"
+placeText (ReadUnlockCas _) = ascii "at ReadUnlockCas"
+placeText (Subtract _ _) = ascii "at Subtract"
+placeText WriteUnlockCas = ascii "at WriteUnlockCas"
+placeText (ReleaseCas _) = ascii "at ReleaseCas"
+placeText DowngradeCas = ascii "at DowngradeCas"
+placeText (DowngradeSlowCas _) = ascii "at DowngradeSlowCas"
