@@ -1,0 +1,3 @@
+//! `crate::sync` as queue.rs imports it.
+
+pub mod atomic;
