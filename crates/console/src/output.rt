@@ -48,3 +48,10 @@ pub fn show(page: &mut [u8], at: usize, line: Line) -> usize
     let start = room(page, at);
     lay(page, start, line.text(b"\n"))
 }
+
+// One line by itself.
+pub fn write_line(line: Line) {
+    let mut page = [0u8; 2 * WIDTH];
+    let at = show(&mut page, 0, line);
+    flush(&page, at);
+}

@@ -2,6 +2,7 @@
 ghost use Prim.Native.Nat.{_≤_};
 use crate::output::flush;
 use crate::output::show;
+use crate::output::write_line;
 use print::Line;
 use print::replayed::refused_line;
 use print::replayed::step_line;
@@ -93,16 +94,10 @@ fn run(traced: bool, first: Machine, s: &[u8], page: &mut [u8]) {
     flush(page, end);
 }
 
-fn one_line(line: Line) {
-    let mut page = [0u8; 512];
-    let at = show(&mut page, 0, line);
-    flush(&page, at);
-}
-
 fn file(traced: bool, s: &[u8]) {
     let checked = check(s);
     match checked {
-        Checked::Refused(refusal) => one_line(refused_line(refusal.number())),
+        Checked::Refused(refusal) => write_line(refused_line(refusal.number())),
         Checked::Accepted { threads, events: _ } => {
             let fresh = Machine::fresh(threads);
             let mut page = io::large_buffer();
@@ -123,5 +118,5 @@ pub fn trace(s: &[u8]) {
 
 // What is printed for a file of more bytes than are looked at.
 pub fn too_long() {
-    one_line(refused_line(FileRefusal::TooMany.number()));
+    write_line(refused_line(FileRefusal::TooMany.number()));
 }

@@ -1,17 +1,10 @@
 // A line for each edge: what was expected and found; and how many agree.
-use console::output::flush;
-use console::output::show;
+use console::output::write_line;
 use print::Line;
 
 pub struct Tally {
     pub right: u64,
     pub wrong: u64,
-}
-
-fn write(line: Line) {
-    let mut page = [0u8; 512];
-    let at = show(&mut page, 0, line);
-    flush(&page, at);
 }
 
 pub fn more(n: u64) -> u64 {
@@ -23,7 +16,7 @@ pub fn more(n: u64) -> u64 {
 
 pub fn tell(so_far: Tally, what: &[u8], expected: u64, found: u64) -> Tally {
     let named = Line::blank().text(what).text(b": expected ");
-    write(named.decimal(expected).text(b", found ").decimal(found));
+    write_line(named.decimal(expected).text(b", found ").decimal(found));
     if expected == found {
         return Tally {
             right: more(so_far.right),
@@ -38,5 +31,5 @@ pub fn tell(so_far: Tally, what: &[u8], expected: u64, found: u64) -> Tally {
 
 pub fn total(so_far: Tally) {
     let right = Line::blank().decimal(so_far.right).text(b" right, ");
-    write(right.decimal(so_far.wrong).text(b" wrong"));
+    write_line(right.decimal(so_far.wrong).text(b" wrong"));
 }

@@ -2,20 +2,13 @@
 use console::Reading;
 use console::input::ENOUGH;
 use console::input::receive_named;
-use console::output::flush;
-use console::output::show;
+use console::output::write_line;
 use console::runs::too_long;
 use console::runs::trace;
 use print::Line;
 
-fn headed(name: &[u8]) {
-    let mut page = [0u8; 512];
-    let at = show(&mut page, 0, Line::blank().text(b"== ").text(name));
-    flush(&page, at);
-}
-
 fn lesson(name: &[u8]) {
-    headed(name);
+    write_line(Line::blank().text(b"== ").text(name));
     let mut file = [0u8; ENOUGH];
     let got = receive_named(name, &mut file);
     let reading = got.reading;

@@ -2,8 +2,7 @@
 use console::Reading;
 use console::input::ENOUGH;
 use console::input::receive;
-use console::output::flush;
-use console::output::show;
+use console::output::write_line;
 use print::Line;
 use schedule::whole::replay_file;
 
@@ -28,9 +27,7 @@ fn over(s: &[u8]) -> u64 {
 }
 
 fn tell(events: u64) {
-    let mut page = [0u8; 512];
-    let at = show(&mut page, 0, Line::blank().decimal(events).text(b" events"));
-    flush(&page, at);
+    write_line(Line::blank().decimal(events).text(b" events"));
 }
 
 fn main() {
