@@ -8,7 +8,7 @@ use print::line::WIDTH;
 use print::page::lay;
 
 // Writes the page's first `at` bytes.
-pub fn flush(page: &[u8], at: usize) {
+pub(crate) fn flush(page: &[u8], at: usize) {
     let written = if at < page.len() {
         io::write_all(libc::STDOUT_FILENO, &page[..at])
     } else {

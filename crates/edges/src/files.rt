@@ -90,7 +90,7 @@ fn too_many(t: Tally) -> Tally {
     tell(a, b"30,001 events of 9 threads", 13, number(&file))
 }
 
-pub fn all(t: Tally) -> Tally {
+pub(crate) fn all(t: Tally) -> Tally {
     let a = short(t);
     let b = version(a);
     let c = length(b);

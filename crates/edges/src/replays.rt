@@ -225,7 +225,7 @@ fn stale_link(t: Tally) -> Tally {
     tell(b, b"readers traced", 0, readers.readers)
 }
 
-pub fn all(t: Tally) -> Tally {
+pub(crate) fn all(t: Tally) -> Tally {
     let a = reader_waits(t);
     let b = reader_woken(a);
     let c = writer_woken(b);
