@@ -5,6 +5,7 @@ use mathlib.Core.List.{List, [], _∷_}
 use lib.ListN.{getD}
 use Rattle.word.specs.Number.{thread}
 use Rattle.word.specs.declared.number.ThreadNumber.{ThreadNumber}
+use Rattle.state.specs.Answer.{refusalNumber}
 use Rattle.state.specs.declared.machine.Machine.{Machine}
 use Rattle.state.specs.declared.machine.Outcome.{Outcome}
 use Rattle.state.specs.declared.answer.Reply.{Reply}
@@ -14,6 +15,11 @@ use Rattle.schedule.specs.File.{eventWidth}
 use Rattle.schedule.specs.declared.replay.Stop.{Stop}
 use Rattle.schedule.specs.declared.replay.Stop.the-variants.{Ran, Refused as Stopped}
 use Rattle.schedule.specs.declared.replay.Replayed.{Replayed}
+
+-- document 01's number for why a replay stopped: the refusal's; 0 where every event ran
+abbrev pub stopNumber : Stop → ℕ
+stopNumber Ran = 0
+stopNumber (Stopped refusal) = refusalNumber refusal
 
 -- the k-th event's two bytes, from 0
 abbrev pub codeAt : List ℕ → ℕ → ℕ

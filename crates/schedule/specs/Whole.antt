@@ -3,8 +3,9 @@
 use Prim.Native.Nat.{ℕ, _*_}
 use mathlib.Core.List.{List}
 use lib.ListN.{drop}
+use Rattle.state.specs.Answer.{refusalNumber}
 use Rattle.state.specs.Machine.{madeOf, freshOf}
-use Rattle.schedule.specs.File.{headerLength, eventWidth, checkedOf}
+use Rattle.schedule.specs.File.{headerLength, eventWidth, fileNumber, checkedOf}
 use Rattle.schedule.specs.Replay.{replayOf}
 use Rattle.schedule.specs.declared.file.FileRefusal.{FileRefusal}
 use Rattle.schedule.specs.declared.file.Checked.{Checked}
@@ -15,6 +16,12 @@ use Rattle.schedule.specs.declared.replay.Replayed.{Replayed}
 use Rattle.schedule.specs.declared.whole.FileStop.{FileStop}
 use Rattle.schedule.specs.declared.whole.FileStop.the-variants.{Ran as FileRan, Refused as FileStopped, File}
 use Rattle.schedule.specs.declared.whole.FileReplayed.{FileReplayed}
+
+-- document 01's number for why a file's replay stopped: an event's refusal, the file's, or 0 where every event ran
+abbrev pub fileStopNumber : FileStop → ℕ
+fileStopNumber FileRan = 0
+fileStopNumber (FileStopped refusal) = refusalNumber refusal
+fileStopNumber (File refusal) = fileNumber refusal
 
 abbrev pub fileStopOf : Stop → FileStop
 fileStopOf Ran = FileRan
