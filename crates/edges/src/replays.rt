@@ -1,228 +1,129 @@
 // Document 01's replays on both sides of each edge, by their numbers.
+use crate::moves::READ;
+use crate::moves::READ_UNLOCK;
+use crate::moves::STEP;
+use crate::moves::WRITE;
+use crate::moves::WRITE_UNLOCK;
+use crate::moves::told;
+use crate::moves::told_of_three;
 use crate::sheet::Tally;
-use crate::sheet::more;
 use crate::sheet::tell;
-use listing::listing::listing;
-use listing::reader_count::reader_count;
-use lock::event::event;
-use state::Machine;
-use state::Reply;
-use word::Owner;
-use word::ThreadNumber;
 
-const READ: u8 = 0;
+// Thread 0 holds write, and thread 1 has begun to read.
+const READER_COMES: [u8; 9] = [WRITE, 0, 1, STEP, 0, 1, READ, 1, 1];
 
-const WRITE: u8 = 1;
+// Thread 0 holds write, and thread 1 sleeps.
+const READER_WAITS: [u8; 12] = [WRITE, 0, 1, STEP, 0, 1, READ, 1, 1, STEP, 1, 11];
 
-const READ_UNLOCK: u8 = 4;
+const WRITER_WAITS: [u8; 12] = [WRITE, 0, 1, STEP, 0, 1, WRITE, 1, 1, STEP, 1, 11];
 
-const WRITE_UNLOCK: u8 = 5;
+// Thread 0 reads, and thread 1 has registered to write.
+const READ_HELD: [u8; 12] = [READ, 0, 1, STEP, 0, 2, WRITE, 1, 1, STEP, 1, 10];
 
-const STEP: u8 = 16;
+// After a writer waits: thread 2 waits too, and thread 0's write_unlock splits the writer off.
+const READER_LEFT: [u8; 12] = [READ, 2, 1, STEP, 2, 11, WRITE_UNLOCK, 0, 1, STEP, 0, 20];
 
-fn fresh(count: u8) -> Machine {
-    let made = Machine::fresh(count);
-    made.machine
-}
-
-fn after(m: Machine, code: u8, thread: u8) -> Machine {
-    let o = event(m, code, ThreadNumber(thread));
-    o.machine
-}
-
-// So many steps of a thread; a refused one changes nothing.
-fn steps(first: Machine, thread: u8, times: u8) -> Machine {
-    let mut m = first;
-    let mut left = times;
-    while left > 0 {
-        m = after(m, STEP, thread);
-        left = left - 1;
-    }
-    m
-}
-
-// The number of the refusal, 0 where the event is accepted.
-fn refusal(m: Machine, code: u8, thread: u8) -> u64 {
-    let o = event(m, code, ThreadNumber(thread));
-    let reply = o.reply;
-    match reply {
-        Reply::Accepted {
-            answer: _,
-            woken: _,
-        } => 0,
-        Reply::Refused(r) => r.number() as u64,
-    }
-}
-
-fn counted(so_far: u64, refused: u64) -> u64 {
-    if refused == 0 {
-        return more(so_far);
-    }
-    so_far
-}
-
-// How many steps of a thread are accepted, one after the other.
-fn accepted(first: Machine, thread: u8) -> u64 {
-    let mut m = first;
-    let mut n: u64 = 0;
-    let mut left: u8 = 100;
-    while left > 0 {
-        n = counted(n, refusal(m, STEP, thread));
-        m = after(m, STEP, thread);
-        left = left - 1;
-    }
-    n
-}
-
-fn node_of(woken: Owner, before: u64) -> u64 {
-    match woken {
-        Owner::Nobody => before,
-        Owner::Thread(t) => t.0 as u64 + 1,
-    }
-}
-
-fn woken(m: Machine, thread: u8, before: u64) -> u64 {
-    let o = event(m, STEP, ThreadNumber(thread));
-    let reply = o.reply;
-    match reply {
-        Reply::Accepted { answer: _, woken } => node_of(woken, before),
-        Reply::Refused(_) => before,
-    }
-}
-
-// The node of the thread that the steps of another woke last, 0 if none.
-fn last_woken(first: Machine, thread: u8) -> u64 {
-    let mut m = first;
-    let mut node: u64 = 0;
-    let mut left: u8 = 100;
-    while left > 0 {
-        node = woken(m, thread, node);
-        m = after(m, STEP, thread);
-        left = left - 1;
-    }
-    node
-}
-
-// Thread 0 holds write, and thread 1 has begun a call.
-fn write_held(count: u8, call: u8) -> Machine {
-    let held = steps(after(fresh(count), WRITE, 0), 0, 1);
-    after(held, call, 1)
-}
+const WRITER_LEFT: [u8; 12] = [WRITE, 2, 1, STEP, 2, 11, WRITE_UNLOCK, 0, 1, STEP, 0, 20];
 
 fn reader_waits(t: Tally) -> Tally {
-    let reads = write_held(2, READ);
-    let w9 = steps(reads, 1, 9).word;
+    let ninth = told(2, &READER_COMES, &[STEP, 1, 9]);
     let a = tell(
         t,
         b"write held, thread 1 reads: word after its 9th step",
         1,
-        w9.0,
+        ninth.word,
     );
-    let w10 = steps(reads, 1, 10).word;
-    let b = tell(a, b"word after its 10th step, which registers", 35, w10.0);
-    let r11 = refusal(steps(reads, 1, 10), STEP, 1);
+    let tenth = told(2, &READER_COMES, &[STEP, 1, 10]);
+    let b = tell(
+        a,
+        b"word after its 10th step, which registers",
+        35,
+        tenth.word,
+    );
+    let eleventh = told(2, &READER_COMES, &[STEP, 1, 11]);
     let c = tell(
         b,
         b"its 11th step, the load of completed, is refused",
         0,
-        r11,
+        eleventh.refused,
     );
-    let r12 = refusal(steps(reads, 1, 11), STEP, 1);
-    tell(c, b"its 12th step is refused", 6, r12)
+    let twelfth = told(2, &READER_COMES, &[STEP, 1, 12]);
+    tell(c, b"its 12th step is refused", 6, twelfth.refused)
 }
 
 fn reader_woken(t: Tally) -> Tally {
-    let unlock = after(steps(write_held(2, READ), 1, 11), WRITE_UNLOCK, 0);
+    let whole = told(2, &READER_WAITS, &[WRITE_UNLOCK, 0, 1, STEP, 0, 100]);
     let a = tell(
         t,
         b"write_unlock with a reader queued: steps",
         7,
-        accepted(unlock, 0),
+        whole.accepted,
     );
-    let w2 = steps(unlock, 0, 2).word;
-    let b = tell(a, b"word that it passes", 38, w2.0);
-    let w7 = steps(unlock, 0, 7).word;
-    let c = tell(b, b"word at its end", 0, w7.0);
-    tell(
-        c,
-        b"node of the thread that it wakes",
-        2,
-        last_woken(unlock, 0),
-    )
+    let second = told(2, &READER_WAITS, &[WRITE_UNLOCK, 0, 1, STEP, 0, 2]);
+    let b = tell(a, b"word that it passes", 38, second.word);
+    let seventh = told(2, &READER_WAITS, &[WRITE_UNLOCK, 0, 1, STEP, 0, 7]);
+    let c = tell(b, b"word at its end", 0, seventh.word);
+    tell(c, b"node of the thread that it wakes", 2, whole.woken)
 }
 
 fn writer_woken(t: Tally) -> Tally {
-    let unlock = after(steps(write_held(2, WRITE), 1, 11), WRITE_UNLOCK, 0);
+    let whole = told(2, &WRITER_WAITS, &[WRITE_UNLOCK, 0, 1, STEP, 0, 100]);
     tell(
         t,
         b"write_unlock with a writer queued: steps",
         8,
-        accepted(unlock, 0),
+        whole.accepted,
     )
 }
 
 // From 35, thread 2 writes.
 fn second_waits(t: Tally) -> Tally {
-    let writes = after(steps(write_held(3, READ), 1, 11), WRITE, 2);
-    let w3 = steps(writes, 2, 3).word;
-    let a = tell(t, b"from 35, thread 2 writes: word after 3 steps", 55, w3.0);
-    let two = steps(writes, 2, 9);
-    let w9 = two.word;
-    let b = tell(a, b"word after 6 more", 51, w9.0);
-    let waiters = listing(two);
-    let newest = waiters.nodes[0];
-    let oldest = waiters.nodes[1];
-    let c = tell(b, b"listing: how many", 2, waiters.length as u64);
-    let d = tell(c, b"listing: the newest", 3, newest.0);
-    tell(d, b"listing: the oldest", 2, oldest.0)
+    let third = told(3, &READER_WAITS, &[WRITE, 2, 1, STEP, 2, 3]);
+    let a = tell(
+        t,
+        b"from 35, thread 2 writes: word after 3 steps",
+        55,
+        third.word,
+    );
+    let ninth = told(3, &READER_WAITS, &[WRITE, 2, 1, STEP, 2, 9]);
+    let b = tell(a, b"word after 6 more", 51, ninth.word);
+    let c = tell(b, b"listing: how many", 2, ninth.waiters);
+    let d = tell(c, b"listing: the newest", 3, ninth.newest);
+    tell(d, b"listing: the oldest", 2, ninth.oldest)
 }
 
 fn count_in_node(t: Tally) -> Tally {
-    let read = steps(after(fresh(2), READ, 0), 0, 2);
-    let queued = steps(after(read, WRITE, 1), 1, 10);
-    let word = queued.word;
-    let a = tell(t, b"one reader, one queued writer: word", 35, word.0);
-    let node = queued.nodes[1];
-    let next = node.next;
-    let b = tell(a, b"node 2's next", 16, next.0);
-    let unlock = after(queued, READ_UNLOCK, 0);
-    tell(b, b"read_unlock: steps", 11, accepted(unlock, 0))
+    let queued = told(2, &READ_HELD, &[]);
+    let a = tell(t, b"one reader, one queued writer: word", 35, queued.word);
+    let b = tell(a, b"node 2's next", 16, queued.next);
+    let unlock = told(2, &READ_HELD, &[READ_UNLOCK, 0, 1, STEP, 0, 100]);
+    tell(b, b"read_unlock: steps", 11, unlock.accepted)
 }
 
 // A writer is split off a queue whose other waiter reads; then a reader registers on that word.
 fn own_node(t: Tally) -> Tally {
-    let writer = steps(write_held(4, WRITE), 1, 11);
-    let both = steps(after(writer, READ, 2), 2, 11);
-    let split = steps(after(both, WRITE_UNLOCK, 0), 0, 20);
-    let word = split.word;
-    let a = tell(t, b"a word with only QUEUED set", 50, word.0);
-    let reads = after(split, READ, 3);
+    let split = told(4, &WRITER_WAITS, &READER_LEFT);
+    let a = tell(t, b"a word with only QUEUED set", 50, split.word);
+    let reads = told_of_three(4, &WRITER_WAITS, &READER_LEFT, &[READ, 3, 1, STEP, 3, 100]);
     tell(
         a,
         b"a reader that registers on it completes its own node last",
         4,
-        last_woken(reads, 3),
+        reads.woken,
     )
 }
 
 // A next that looks like a count and is none: a writer holds over a queue left by a split.
 fn stale_link(t: Tally) -> Tally {
-    let first = steps(write_held(3, WRITE), 1, 11);
-    let both = steps(after(first, WRITE, 2), 2, 11);
-    let split = steps(after(both, WRITE_UNLOCK, 0), 0, 20);
-    let barged = steps(split, 1, 4);
-    let word = barged.word;
+    let barged = told_of_three(3, &WRITER_WAITS, &WRITER_LEFT, &[STEP, 1, 4]);
     let a = tell(
         t,
         b"a writer holds over a queue left by a split: word",
         51,
-        word.0,
+        barged.word,
     );
-    let node = barged.nodes[2];
-    let next = node.next;
-    let b = tell(a, b"node 3's next", 32, next.0);
-    let readers = reader_count(barged);
-    tell(b, b"readers traced", 0, readers.readers)
+    let b = tell(a, b"node 3's next", 32, barged.next);
+    tell(b, b"readers traced", 0, barged.readers)
 }
 
 pub(crate) fn all(t: Tally) -> Tally {

@@ -1,9 +1,11 @@
 -- A place by the name it has in docs/PLACES.md; asleep means at park. Assumes nothing.
-use Prim.Native.Nat.{ℕ}
-use mathlib.Core.List.{List}
+use Prim.Native.Nat.{ℕ, _-_}
+use mathlib.Core.List.{List, _++_}
+use lib.ListN.{length, replicate}
 use Rattle.state.specs.declared.place.Place.{Place}
 use Rattle.state.specs.declared.place.Place.the-variants.{Idle, TryReadLoad, TryReadCas, TryWriteOr, ContendLoad, ContendCas, RegisterCas, CompletedLoad, Park, WalkTail, WalkNext, WalkPrev, WalkHead, QueueCas, SplitPrev, SplitStore, SplitCas, SplitRestore, TakeCas, WakePrev, WakeStore, ReadUnlockLoad, ReadUnlockCas, Subtract, WriteUnlockCas, ReleaseCas, DowngradeCas, DowngradeSlowCas}
 use Rattle.print.specs.Text.{ascii}
+use Rattle.traced.specs.declared.place.Name.{Name}
 
 abbrev pub placeText : Place → List ℕ
 placeText Idle = ascii "idle"
@@ -34,3 +36,11 @@ placeText WriteUnlockCas = ascii "at WriteUnlockCas"
 placeText (ReleaseCas _) = ascii "at ReleaseCas"
 placeText DowngradeCas = ascii "at DowngradeCas"
 placeText (DowngradeSlowCas _) = ascii "at DowngradeSlowCas"
+
+-- the longest name's length
+abbrev pub nameWidth : ℕ
+nameWidth = 19
+
+-- its bytes, with blanks up to that many, and how many they are
+abbrev pub nameOf : Place → Name
+nameOf p = record { bytes = placeText p ++ replicate (nameWidth - length (placeText p)) 32; length = length (placeText p) }
