@@ -1,4 +1,5 @@
 pub mod Lists
+pub mod Parts
 pub mod Intervals
 pub mod Held
 pub mod Statements
@@ -9,7 +10,6 @@ pub mod ListMoves
 pub mod Members
 pub mod Registrations
 pub mod Counts
-pub mod Registered
 pub mod Spots
 pub mod Replays
 pub mod Theorems
