@@ -4,7 +4,9 @@ use mathlib.Core.Bool.{Bool, true, false}
 use mathlib.Core.List.{[], _∷_}
 use mathlib.Core.Logic.{_⊎_, inl, inr}
 use mathlib.Core.Path.{_≡_, refl, sym, ap, _∙_}
+use native.Mathlib.Decide.{decLt}
 use native.Mathlib.Omega.{arith}
+use lib.ListN.{length}
 use Rattle.word.specs.Base.{pick}
 use Rattle.word.specs.Cases.{pick-yes}
 use Rattle.word.specs.Flags.{queued, toNode}
@@ -28,7 +30,7 @@ use Rattle.invariant.specs.Wake.{Waiter-of, waiter-of}
 use Rattle.invariant.specs.Bridge.{nodeIn, lockOf}
 use Rattle.invariant.specs.Events.{Ok}
 use Rattle.safety.specs.Lists.{turned, queueIn, backFrom, heldBy}
-use Rattle.safety.specs.Intervals.{up, down, reverse-down, node-is, lists-all, few-tickets, Begins, goes-back}
+use Rattle.safety.specs.Intervals.{up, down, length-up, reverse-down, node-is, lists-all, few-tickets, Begins, goes-back}
 
 module _ (m : Machine) (ok : Ok m) where
   abbrev g : Ghost
@@ -159,3 +161,11 @@ module _ (m : Machine) (ok : Ok m) where
 
     pub held-is : heldBy m (partOf (threadAt m t .place)) ≡ listed (up (g .log) (g .taken t .beg) (g .taken t .end - g .taken t .beg))
     held-is = held-at (threadAt m t .place) (ok .inv .queue .know t)
+
+    -- no more of them than threads
+    pub held-few : length (up (g .log) (g .taken t .beg) (g .taken t .end - g .taken t .beg)) ≤ m .count
+    held-few = rw (length-up (g .log) (part .lo) (part .hi - part .lo)) (by (decLt (part .lo) (part .hi)))
+      where
+        by : Dec (part .lo < part .hi) → part .hi - part .lo ≤ m .count
+        by (yes l) = few-tickets m part mine-live mine-range (omega arith)
+        by (no l) = omega arith

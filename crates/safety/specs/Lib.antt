@@ -3,6 +3,7 @@ pub mod Parts
 pub mod Intervals
 pub mod Held
 pub mod Statements
+pub mod Calls
 pub mod Runs
 pub mod Plain
 pub mod Stuck
@@ -12,4 +13,11 @@ pub mod Registrations
 pub mod Counts
 pub mod Spots
 pub mod Replays
+pub mod ListTests
+pub mod StandingList
+pub mod OneQueueOwner
+pub mod ChangesWithTheWord
+pub mod Phases
+pub mod CallSteps
+pub mod EachCall
 pub mod Theorems

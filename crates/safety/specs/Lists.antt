@@ -1,6 +1,7 @@
--- The lists of waiters, read off the machine alone, oldest first: the queue, which is the waiter listing turned round, and
--- what each thread has taken off it, by what its place has to do with the queue (`partOf`, crate standing's table: what the
--- trace prints is read off the same). A list is lost where it leaves the range or does not end within the count.
+-- The lists of waiters, read off the machine alone, oldest first: the queue, which is the waiter listing turned round,
+-- and what each thread has taken off it, by what its place has to do with the queue (`partOf`, crate standing's table:
+-- what the trace prints is read off the same). A list is lost where it leaves the range or does not end within the
+-- count.
 -- Not here: how the lists change and who is on them (Statements.antt); that none is ever lost (Held.antt).
 -- Assumes nothing.
 use Prim.Native.Nat.{ℕ, zero, suc}
@@ -30,8 +31,8 @@ unfoldable pub backFrom : ℕ → Machine → NodeNumber → Listed
 backFrom zero m at = pick (isNone at) (listed []) lost
 backFrom (suc left) m at = pick (isNone at) (listed []) (stand m at (backFrom left m (nodeBy m at .prev)))
 
--- what a thread with this part has taken off, set aside or to be woken: a downgrade's walk is over the old queue, which it
--- took, so it is what the listing would read from the word that it saw; a waker goes back by prev
+-- what a thread with this part has taken off, set aside or to be woken: a downgrade's walk is over the old queue, which
+-- it took, so it is what the listing would read from the word that it saw; a waker goes back by prev
 abbrev pub heldBy : Machine → Part → Listed
 heldBy m Apart = listed []
 heldBy m Contending = listed []

@@ -1,5 +1,6 @@
--- The invariant's table of places and crate standing's say the same of a thread: whether its node is registered, whether
--- it owns the queue, and whether what it has taken off is set aside. Assumes nothing.
+-- The invariant's table of places and crate standing's say the same of a thread: whether its node is registered,
+-- whether it owns the queue, and whether what it has taken off is set aside.
+-- Assumes nothing.
 use mathlib.Core.Path.{_≡_, refl}
 use Rattle.state.specs.declared.place.Who.the-variants.{Waiter, Leaver}
 use Rattle.state.specs.declared.place.Walk.the-variants.{Queue, ReadUnlock, Downgrade}
