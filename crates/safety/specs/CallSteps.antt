@@ -1,9 +1,9 @@
 -- Every rule, at each of its ends, takes a call from what fits its place (Phases.antt) to what fits the place gone on
 -- to, or to its work done (Calls.antt).
 -- Assumes nothing.
-use mathlib.Core.Bool.{Bool, true, false, not}
+use mathlib.Core.Bool.{true, false, not}
 use mathlib.Core.List.{List, [], _∷_}
-use mathlib.Core.Logic.{_⊎_, inl, inr, ⊎-elim}
+use mathlib.Core.Logic.{_⊎_, inl, inr}
 use mathlib.Core.Path.{_≡_, refl, sym, ap, subst}
 use native.Mathlib.Omega.{arith}
 use lib.Dec.{eqb}
@@ -50,7 +50,7 @@ Then No p h c xs = Work c No xs
 abbrev pub Works : View → Place → Change → Type 0
 Works v p x =
     (c : Call) (xs : List LockEffect) → Allowed (about p .may) (v .holding) → Fits (phase p) (v .holding) c xs
-        → Then (x .answer) (x .thread .place) (x .thread .holding) c (also xs (lockDone v p x))
+    → Then (x .answer) (x .thread .place) (x .thread .holding) c (also xs (lockDone v p x))
 
 -- ── ways to end ──
 

@@ -129,4 +129,4 @@ pub record WorkDone (g : Log) (p : Place) : Type 0 where
 abbrev pub EachCallDoesItsWork : Program → Type 0
 EachCallDoesItsWork event =
     (n : ℕ) (es : List Event) (t : ThreadNumber)
-        → WorkDone (logOf event t (freshOf n .machine) es nothingYet) (placeOf (reachedBy event n es) t)
+    → WorkDone (logOf event t (freshOf n .machine) es nothingYet) (placeOf (reachedBy event n es) t)

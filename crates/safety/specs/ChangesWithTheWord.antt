@@ -59,11 +59,11 @@ needs-contended : (m : Machine) (ok : Ok m) (t : ℕ)
 needs-contended m ok t e =
     let q : queued (m .word) ≡ true = ok .inv .needs t e in
     let l : locked (m .word) ≡ true =
-        not-false (locked (m .word)) (λ z. nobody-needs (m .count) (lockOf m) (ok .ghost) (ok .inv)
-        (ok .inv .count .unlocked q z .writes) (ok .inv .count .unlocked q z .leaves) t e) in
+    not-false (locked (m .word)) (λ z. nobody-needs (m .count) (lockOf m) (ok .ghost) (ok .inv)
+    (ok .inv .count .unlocked q z .writes) (ok .inv .count .unlocked q z .leaves) t e) in
     let d : downgraded (m .word) ≡ false =
-        not-true (downgraded (m .word)) (λ z. nobody-needs (m .count) (lockOf m) (ok .ghost) (ok .inv)
-        (ok .inv .count .handed q l z .writes) (ok .inv .count .handed q l z .leaves) t e) in
+    not-true (downgraded (m .word)) (λ z. nobody-needs (m .count) (lockOf m) (ok .ghost) (ok .inv)
+    (ok .inv .count .handed q l z .writes) (ok .inv .count .handed q l z .leaves) t e) in
     rw (q, l, d)
 
 -- ── a step ──

@@ -87,14 +87,14 @@ module _ (m : Machine) (ok : Ok m) (t : ThreadNumber) (g : Log) (d : Tidy t g m)
           → Then a (placeOf next t) (threadAt next (t .0) .holding) c (also xs did)
       moved c xs f =
           let rule : Works v (placeOf m t) (s .c) =
-              subst (All (Works v (placeOf m t))) (s .rule) (rule-works v (placeOf m t)) in
+          subst (All (Works v (placeOf m t))) (s .rule) (rule-works v (placeOf m t)) in
           let made = rule c xs (ok .inv .holding (t .0)) f in
           let answer = subst (λ x. Then x (s .c .thread .place) (s .c .thread .holding) c
-              (also xs (lockDone v (placeOf m t) (s .c)))) (answered m code t a w e s) made in
+          (also xs (lockDone v (placeOf m t) (s .c)))) (answered m code t a w e s) made in
           let effect = subst (λ x. Then a (s .c .thread .place) (s .c .thread .holding) c (also xs x))
-              (sym (effect-is m code t a w e s (ok .sized))) answer in
+          (sym (effect-is m code t a w e s (ok .sized))) answer in
           let place = subst (λ x. Then a x (s .c .thread .holding) c (also xs did))
-              (sym (own-place m code t a w e s (ok .sized))) effect in
+          (sym (own-place m code t a w e s (ok .sized))) effect in
           subst (λ x. Then a (placeOf next t) x c (also xs did)) (sym (own-holding m code t a w e s (ok .sized))) place
 
       idle-now : ends a ≡ true → placeOf next t ≡ Idle

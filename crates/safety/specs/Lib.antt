@@ -21,3 +21,4 @@ pub mod Phases
 pub mod CallSteps
 pub mod EachCall
 pub mod Theorems
+pub mod WrongRuns

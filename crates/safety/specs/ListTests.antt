@@ -22,7 +22,7 @@ use Rattle.word.specs.declared.number.Slot.the-variants.{Outside, At as AtSlot}
 use Rattle.state.specs.Machine.{threadLimit, nodeAt, goodCount}
 use Rattle.state.specs.declared.machine.Machine.{Machine}
 use Rattle.state.specs.declared.place.Who.{Who}
-use Rattle.listing.specs.Listing.{Listed, lost, listed, prepend, within, nodeBy, stand, followedOf, fromHeadOf}
+use Rattle.listing.specs.Listing.{Listed, lost, listed, prepend, within, nodeBy, stand, followedOf}
 use Rattle.listing.specs.Listing.{padded, waitersBy}
 use Rattle.standing.specs.Look.{prevBy, prevOf, sameOr, amongBelow, among, metFrom}
 use Rattle.standing.specs.Stands.{asideIn as isAside, inListOf}
@@ -71,8 +71,8 @@ prev-is m few at w = by (ltb (at .0) 1) refl w
         let low : 1 ≤ at .0 = ltb-false (at .0) 1 e in
         let high : at .0 ≤ m .count = leb-true (at .0) (m .count) f in
         let slot : slotOf at (m .count) ≡ AtSlot (at .0 - 1) =
-            sym (pick-no (ltb (at .0) 1) (AtSlot (at .0 - 1)) Outside _ e
-            (pick-no (ltb (m .count) (at .0)) (AtSlot (at .0 - 1)) Outside _ (le-ltb (m .count) (at .0) high) refl)) in
+        sym (pick-no (ltb (at .0) 1) (AtSlot (at .0 - 1)) Outside _ e
+        (pick-no (ltb (m .count) (at .0)) (AtSlot (at .0 - 1)) Outside _ (le-ltb (m .count) (at .0) high) refl)) in
         ap (prevBy m) slot
         ∙ sym (pick-yes (ltb (at .0 - 1) threadLimit) (nodeAt m (at .0 - 1) .prev) (nodeAt m (at .0 - 1) .prev) none
         (lt-ltb (at .0 - 1) threadLimit (omega arith)) refl)
@@ -147,10 +147,11 @@ module _ (n : NodeNumber) (some : n .0 ≢ 0) where
 
   pub among-listed : (ns : List NodeNumber) → length ns ≤ threadLimit
       → Tests (among (waitersBy (listed ns)) n) (List·Memᴰ n ns)
-  among-listed ns l =
-      (λ e. let x = among-at threadLimit (padded ns) e in at-in ns (threadLimit - length ns) (x .0) (x .1),
-      λ i. let x = in-at ns (threadLimit - length ns) i in
-      at-among threadLimit (padded ns) (x .0) (omega (arith, x .1)) (x .2))
+  among-listed ns l = (
+    λ e. let x = among-at threadLimit (padded ns) e in at-in ns (threadLimit - length ns) (x .0) (x .1),
+    λ i. let x = in-at ns (threadLimit - length ns) i in
+        at-among threadLimit (padded ns) (x .0) (omega (arith, x .1)) (x .2),
+  )
 
   -- ── turned round ──
 
@@ -191,8 +192,8 @@ module _ (n : NodeNumber) (some : n .0 ≢ 0) where
         onto b l = Tests b (List·Memᴰ n (reverseAux l before))
 
         by : ((f : Bool) (l : List NodeNumber) → backFrom left m (nodeBy m at .prev) ≡ listed l
-                → Tests f (List·Memᴰ n (at ∷ before))
-                → Tests (metFrom left m n (nodeBy m at .prev) f) (List·Memᴰ n (reverseAux l (at ∷ before))))
+            → Tests f (List·Memᴰ n (at ∷ before))
+            → Tests (metFrom left m n (nodeBy m at .prev) f) (List·Memᴰ n (reverseAux l (at ∷ before))))
             → (b : Bool) → isNone at ≡ b
             → pick b (listed []) (stand m at (backFrom left m (nodeBy m at .prev))) ≡ listed ns
             → onto (metFrom left m n (prevOf m at) (sameOr found at n)) ns

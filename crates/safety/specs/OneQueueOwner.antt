@@ -3,7 +3,7 @@
 -- Assumes nothing.
 use Prim.Native.Nat.{ℕ, _≤_}
 use mathlib.Core.Bool.{Bool, true, false}
-use mathlib.Core.List.{[], List·Memᴰ·not-nil}
+use mathlib.Core.List.{List·Memᴰ·not-nil}
 use mathlib.Core.Logic.{_⊎_, inl, inr, _≢_}
 use mathlib.Core.Path.{_≡_, refl, sym, ap, _∙_}
 use native.Mathlib.Omega.{arith}
@@ -11,7 +11,6 @@ use Rattle.word.specs.Flags.{queueLocked}
 use Rattle.word.specs.declared.number.NodeNumber.{NodeNumber}
 use Rattle.state.specs.Machine.{threadAt}
 use Rattle.state.specs.declared.machine.Machine.{Machine}
-use Rattle.listing.specs.Listing.{listed}
 use Rattle.standing.specs.Part.{partOf}
 use Rattle.standing.specs.Rouses.{ownsOf}
 use Rattle.standing.specs.declared.part.Part.{Part}
@@ -26,7 +25,7 @@ use Rattle.invariant.specs.Bridge.{lockOf}
 use Rattle.invariant.specs.Events.{Ok}
 use Rattle.safety.specs.Lists.{asideBy}
 use Rattle.safety.specs.Parts.{same-part}
-use Rattle.safety.specs.Statements.{At, In, aside, OwnsQueue, OneOwner, Owned}
+use Rattle.safety.specs.Statements.{In, OwnsQueue, OneOwner, Owned}
 
 -- who has set anything aside owns the queue
 aside-owns : (m : Machine) (k : NodeNumber) (part : Part) → In k (asideBy m part) → ownsOf part ≡ true
@@ -66,7 +65,7 @@ module _ (m : Machine) (ok : Ok m) where
   some-owner : queueLocked (m .word) ≡ true → (t : ℕ) × OneOwner m t
   some-owner e =
       let x : (t : ℕ) × (1 ≤ weight (owner t)) =
-          sum-some (m .count) (λ t. weight (owner t)) (omega (arith, ok .inv .owners, ap weight e)) in
+      sum-some (m .count) (λ t. weight (owner t)) (omega (arith, ok .inv .owners, ap weight e)) in
       (x .0, one (x .0) (sym (same-part (threadAt m (x .0) .place) .owner) ∙ weighs (owner (x .0)) (x .1)))
 
   pub owned : Owned m

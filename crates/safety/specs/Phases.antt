@@ -97,7 +97,7 @@ Fits unlocksRead h c xs = (c ≡ ReadUnlock) × (xs ≡ [])
 Fits unlocksWrite h c xs = (c ≡ WriteUnlock) × (xs ≡ [])
 Fits releases h c xs =
     ((c ≡ ReadUnlock) × (xs ≡ releasesRead ∷ []) × (h ≡ HoldsNothing))
-        ⊎ ((c ≡ WriteUnlock) × (xs ≡ []) × (h ≡ HoldsWrite))
+    ⊎ ((c ≡ WriteUnlock) × (xs ≡ []) × (h ≡ HoldsWrite))
 Fits downgrading h c xs = (c ≡ Downgrade) × (xs ≡ [])
 Fits downgraded h c xs = (c ≡ Downgrade) × (xs ≡ downgrades ∷ [])
 Fits leaves h c xs = Left c xs

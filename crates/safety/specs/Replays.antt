@@ -80,7 +80,7 @@ replayed file = by (checkedOf file)
     by (Good threads events) =
         let fresh = freshOf threads .machine in
         let x : RunsTo fresh (replayOf fresh (drop headerLength file)) =
-            replay-runs fresh (start threads .ok) (drop headerLength file) in
+        replay-runs fresh (start threads .ok) (drop headerLength file) in
         record {
           count = threads;
           events = x .events;

@@ -112,7 +112,7 @@ Plainly event h m (e ∷ es) h″ =
 abbrev pub PlainLock : Program → Type 0
 PlainLock event =
     (n : ℕ) (es : List Event)
-        → Plainly event (λ t. Nothing) (freshOf n .machine) es (holdersOf (reachedBy event n es))
+    → Plainly event (λ t. Nothing) (freshOf n .machine) es (holdersOf (reachedBy event n es))
 
 -- nobody's, some readers' or one writer's
 pub data Whose (h : Holders) : Type 0 where
@@ -127,7 +127,7 @@ MutualExclusion event = (n : ℕ) (es : List Event) → Whose (holdersOf (reache
 abbrev pub WithTheWord : Program → Machine → Event → Type 0
 WithTheWord event m e =
     (effectBy event m e .lock ≡ keeps)
-        ⊎ ((wordChanged m (afterBy event m e) ≡ true) ⊎ (subtracting (placeOf m (e .thread)) ≡ true))
+    ⊎ ((wordChanged m (afterBy event m e) ≡ true) ⊎ (subtracting (placeOf m (e .thread)) ≡ true))
 
 abbrev pub ChangesWithTheWord : Program → Type 0
 ChangesWithTheWord event = (n : ℕ) (es : List Event) (e : Event) → WithTheWord event (reachedBy event n es) e
@@ -169,9 +169,9 @@ pub record Counted (m : Machine) (r : ℕ) : Type 0 where
 abbrev pub ReaderCount : Program → Type 0
 ReaderCount event =
     (n : ℕ) (es : List Event)
-        → (r : ℕ)
-        × (tally event gained (freshOf n .machine) es ≡ r + tally event given-up (freshOf n .machine) es)
-        × Counted (reachedBy event n es) r
+    → (r : ℕ)
+    × (tally event gained (freshOf n .machine) es ≡ r + tally event given-up (freshOf n .machine) es)
+    × Counted (reachedBy event n es) r
 
 -- ── the lists of waiters ──
 
@@ -334,7 +334,7 @@ NobodyStuck event = (n : ℕ) (es : List Event) → NotStuck (reachedBy event n 
 abbrev pub NeverEight : Program → Type 0
 NeverEight event =
     (n : ℕ) (es : List Event) (e : Event)
-        → numberGiven (event (reachedBy event n es) (e .code) (e .thread) .reply) ≢ refusalNumber Damaged
+    → numberGiven (event (reachedBy event n es) (e .code) (e .thread) .reply) ≢ refusalNumber Damaged
 
 -- the node that thread t's next step accesses is its own or a waiter's; and a waiter's is the tail whose writer mark
 -- its local code reads, if any

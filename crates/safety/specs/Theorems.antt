@@ -58,9 +58,11 @@ changes-with-the-word n es e = event-changes (reached n es) (reached-ok n es) e
 -- ── the readers' number ──
 
 pub reader-count : ReaderCount eventOf
-reader-count n es =
-    (readersIn (reached n es), omega (arith, tallied (freshOf n .machine) (start n .ok) es, none),
-    counted (reached n es) (reached-ok n es))
+reader-count n es = (
+  readersIn (reached n es),
+  omega (arith, tallied (freshOf n .machine) (start n .ok) es, none),
+  counted (reached n es) (reached-ok n es),
+)
   where
     none : readersIn (freshOf n .machine) ≡ 0
     none =
