@@ -6,7 +6,7 @@
 use Prim.Native.Nat.{ℕ, zero, suc, _+_, _-_, _<_}
 use mathlib.Core.Bool.{Bool, true, false, false≢true}
 use mathlib.Core.List.{List, [], _∷_, _++_, List·Memᴰ·head}
-use mathlib.Core.Logic.{_⊎_, inl, inr, ⊎-elim}
+use mathlib.Core.Logic.{inl, inr, ⊎-elim}
 use mathlib.Core.Path.{_≡_, refl, sym, ap, _∙_, subst}
 use native.Mathlib.Omega.{arith}
 use lib.Dec.{eqb}
@@ -17,10 +17,9 @@ use Rattle.word.specs.Number.{thread, node, nodeOf}
 use Rattle.word.specs.declared.number.NodeNumber.{NodeNumber}
 use Rattle.word.specs.declared.number.Owner.{Owner}
 use Rattle.word.specs.declared.number.Owner.the-variants.{Nobody, Thread as Somebody}
-use Rattle.word.specs.declared.number.ThreadNumber.{ThreadNumber}
 use Rattle.state.specs.Access.{accessOf}
 use Rattle.state.specs.Machine.{nodeAt, threadAt}
-use Rattle.state.specs.View.{at, end, stays, writes, walkFrom}
+use Rattle.state.specs.View.{at, end, stays, writes, completes, walkFrom}
 use Rattle.state.specs.declared.answer.Answer.{Answer}
 use Rattle.state.specs.declared.answer.Answer.the-variants.{Begun, Went, Done, Yes, No}
 use Rattle.state.specs.declared.answer.Refusal.the-variants.{Damaged}
@@ -29,12 +28,12 @@ use Rattle.state.specs.declared.answer.Verdict.the-variants.{Fine, Refused as H
 use Rattle.state.specs.declared.holding.Holding.{Holding}
 use Rattle.state.specs.declared.holding.Holding.the-variants.{Nothing, Read, Write}
 use Rattle.state.specs.declared.machine.Machine.{Machine}
-use Rattle.state.specs.declared.machine.Outcome.{Outcome}
 use Rattle.state.specs.declared.place.Place.{Place}
 use Rattle.state.specs.declared.place.Place.the-variants.{ReadUnlockCas, WakePrev}
 use Rattle.state.specs.declared.place.Who.the-variants.{Waiter, Leaver}
 use Rattle.state.specs.declared.place.Walk.the-variants.{Queue}
 use Rattle.state.specs.declared.view.Change.{Change}
+use Rattle.state.specs.declared.view.Next.{Next}
 use Rattle.state.specs.declared.view.View.{View}
 use Rattle.state.specs.declared.view.Stepped.{Stepped}
 use Rattle.state.specs.declared.view.Stepped.the-variants.{To, Refused}
@@ -57,17 +56,23 @@ use Rattle.queue.specs.Updates.{upd}
 use Rattle.safety.specs.Lists.{backFrom, wakesIn}
 use Rattle.safety.specs.Statements.{Event, ranBy, reachedBy, CountStays, holdersOf, Plainly, PlainLock}
 use Rattle.safety.specs.Statements.{Whose, nobodys, readers, writers, MutualExclusion, ChangesWithTheWord}
-use Rattle.safety.specs.Statements.{ReaderCount, registrations, ListingTotal, ListsMove, Waits, Spot, queue, aside, In, OneSpot}
-use Rattle.safety.specs.Statements.{waker, OnePlace, StandingIsItsList, OneQueueOwner, Resting, NobodyStuck}
+use Rattle.safety.specs.Statements.{ReaderCount, ListingTotal, ListsMove, Waits, Spot, queue, aside, waker, In}
+use Rattle.safety.specs.Statements.{OneSpot, OnePlace, StandingIsItsList, OneQueueOwner, Resting, NobodyStuck}
 use Rattle.safety.specs.Statements.{NeverEight, TouchedAlive, ReplayedSafe}
 use Rattle.safety.specs.Calls.{logOf, EachCallDoesItsWork}
 
 -- ── programs and runs ──
 
--- what the right rule makes is changed
-abbrev changing : (View → Change → Change) → View → Stepped → Stepped
-changing f v (To c) = To (f v c)
-changing f v (Refused r) = Refused r
+-- the rule of one place with another change made of its change, where it is not refused
+abbrev changing : ℕ → (View → Change → Stepped) → Program
+changing k f = programOf (changedAt k by)
+  where
+    by : View → Stepped → Stepped
+    by v (To c) = f v c
+    by v (Refused r) = Refused r
+
+abbrev nextOf : Change → Next
+nextOf c = record { place = c .thread .place; answer = c .answer }
 
 abbrev ev : ℕ → ℕ → Event
 ev code t = record { code = code; thread = thread t }
@@ -86,7 +91,7 @@ unlocking k = registered ++ (ev 16 1 ∷ ev 5 0 ∷ steps k 0)
 
 -- ── the number of threads ──
 
--- a begin adds a thread
+-- 'A machine has 1 to 8 threads': here each event adds one
 abbrev adds-a-thread : Program
 adds-a-thread m code t =
     record {
@@ -103,16 +108,7 @@ adds-a-thread-refuted holds =
 
 -- 'A downgrade makes its holder a reader': here it holds nothing
 abbrev downgrade-releases : Program
-downgrade-releases = programOf (changedAt 26 (changing (λ v c. released c)))
-  where
-    released : Change → Change
-    released c = record {
-      word = c .word;
-      node = c .node;
-      thread = record { place = c .thread .place; token = c .thread .token; holding = Nothing };
-      answer = c .answer;
-      woken = c .woken;
-    }
+downgrade-releases = changing 26 (λ v c. writes v (c .word) Nothing (nextOf c))
 
 abbrev holdsRead : Holding → Bool
 holdsRead Nothing = false
@@ -189,11 +185,7 @@ counts-in-the-word-refuted holds = false≢true (holds 3 two-readers .2 .agrees)
 
 -- 'Else fill the node': here it is registered as it was
 abbrev registers-unfilled : Program
-registers-unfilled = programOf (changedAt 4 (changing unfilled))
-  where
-    unfilled : View → Change → Change
-    unfilled v c =
-        record { word = c .word; node = v .node; thread = c .thread; answer = c .answer; woken = c .woken }
+registers-unfilled = changing 4 (λ v c. stays v (nextOf c))
 
 abbrev isFine : Verdict → Bool
 isFine Fine = true
@@ -205,24 +197,13 @@ registers-unfilled-refuted holds = false≢true (ap isFine (holds 2 registered .
 
 -- 'Reading prev after completing a node': here a waker stands on the node that it has completed, to load its prev
 abbrev reads-prev-late : Program
-reads-prev-late = programOf (changedAt 20 (changing late))
+reads-prev-late =
+    changing 20
+    (λ v c. completes v (c .node) (c .woken) (back (c .woken) (nextOf c)))
   where
-    still : Change → Owner → Change
-    still c Nobody = c
-    still c (Somebody t) = record {
-      word = c .word;
-      node = c .node;
-      thread = record {
-        place = WakePrev Leaver (nodeOf t);
-        token = c .thread .token;
-        holding = c .thread .holding;
-      };
-      answer = Went;
-      woken = c .woken;
-    }
-
-    late : View → Change → Change
-    late v c = still c (c .woken)
+    back : Owner → Next → Next
+    back Nobody next = next
+    back (Somebody t) next = at (WakePrev Leaver (nodeOf t))
 
 abbrev listedLength : Listed → ℕ
 listedLength lost = 0
@@ -240,25 +221,21 @@ reads-prev-late-moves-refuted holds =
 
 -- 'compare to 17 or 0, then complete all': here the queue stays in the word
 abbrev takes-nothing-off : Program
-takes-nothing-off = programOf (changedAt 18 (changing (λ v c. untaken v c)))
-  where
-    untaken : View → Change → Change
-    untaken v c =
-        record { word = v .word; node = c .node; thread = c .thread; answer = c .answer; woken = c .woken }
+takes-nothing-off = changing 18 (λ v c. stays v (nextOf c))
 
 abbrev isQueue : Spot → Bool
 isQueue queue = true
 isQueue (aside t) = false
 isQueue (waker t) = false
 
-abbrev untaken-off : Machine
-untaken-off = reachedBy takes-nothing-off 2 (unlocking 5)
+abbrev untaken : Machine
+untaken = reachedBy takes-nothing-off 2 (unlocking 5)
 
-in-the-queue : listedOf untaken-off ≡ listed (node 2 ∷ [])
+in-the-queue : listedOf untaken ≡ listed (node 2 ∷ [])
 unfolding ranBy advanceOf accessOf markedOf which toSet toTail
 in-the-queue = refl
 
-to-be-woken : wakesIn untaken-off (threadAt untaken-off 0 .place) ≡ listed (node 2 ∷ [])
+to-be-woken : wakesIn untaken (threadAt untaken 0 .place) ≡ listed (node 2 ∷ [])
 unfolding ranBy advanceOf accessOf markedOf which backFrom
 to-be-woken = refl
 
@@ -266,11 +243,13 @@ to-be-woken = refl
 pub takes-nothing-off-refuted : OnePlace takes-nothing-off → ⊥
 unfolding ranBy advanceOf accessOf markedOf which
 takes-nothing-off-refuted holds =
-    let one : OneSpot untaken-off (node 2) =
-        holds 2 (unlocking 5) .0 1 (record { below = omega arith; registered = refl; uncompleted = refl }) in
-    let woken : waker 0 ≡ one .spot = one .only (waker 0) (subst (In (node 2)) (sym to-be-woken) (List·Memᴰ·head refl)) in
-    let queued : queue ≡ one .spot = one .only queue (subst (In (node 2)) (sym in-the-queue) (List·Memᴰ·head refl)) in
-    false≢true (ap isQueue (woken ∙ sym queued))
+    two (holds 2 (unlocking 5) .0 1 (record { below = omega arith; registered = refl; uncompleted = refl }))
+  where
+    two : OneSpot untaken (node 2) → ⊥
+    two one =
+        false≢true (ap isQueue
+        (one .only (waker 0) (subst (In (node 2)) (sym to-be-woken) (List·Memᴰ·head refl))
+        ∙ sym (one .only queue (subst (In (node 2)) (sym in-the-queue) (List·Memᴰ·head refl)))))
 
 -- 'then complete all': here it is done with the compare
 abbrev wakes-nobody : Program
@@ -284,20 +263,8 @@ wakes-nobody-refuted holds = holds 2 (unlocking 5) (thread 1) (omega arith)
 
 -- 'Whoever turned QUEUE_LOCKED on runs unlock queue': here whoever registers does
 abbrev walks-always : Program
-walks-always = programOf (changedAt 6 (changing walking))
-  where
-    walking : View → Change → Change
-    walking v c = record {
-      word = c .word;
-      node = c .node;
-      thread = record {
-        place = walkFrom (Queue (Waiter false)) (c .word) .place;
-        token = c .thread .token;
-        holding = c .thread .holding;
-      };
-      answer = c .answer;
-      woken = c .woken;
-    }
+walks-always =
+    changing 6 (λ v c. writes v (c .word) (c .thread .holding) (walkFrom (Queue (Waiter false)) (c .word)))
 
 pub walks-always-refuted : OneQueueOwner walks-always → ⊥
 unfolding ranBy advanceOf accessOf markedOf which
@@ -307,11 +274,7 @@ walks-always-refuted holds = holds 2 registered .unlocked refl 1 refl
 
 -- 'Completing stores completed and unparks': here it sets no token
 abbrev sets-no-token : Program
-sets-no-token = programOf (changedAt 20 (changing untold))
-  where
-    untold : View → Change → Change
-    untold v c =
-        record { word = c .word; node = c .node; thread = c .thread; answer = c .answer; woken = Nobody }
+sets-no-token = changing 20 (λ v c. completes v (c .node) Nobody (nextOf c))
 
 pub sets-no-token-refuted : NobodyStuck sets-no-token → ⊥
 unfolding ranBy advanceOf accessOf markedOf which
@@ -345,7 +308,7 @@ reads-prev-late-touches-refuted holds = ⊎-elim own waits (holds 2 (unlocking 7
 
 -- ── a replayed file ──
 
--- a file that is refused is refused 8
+-- '8 is never given for a machine reached from fresh': here each file's replay stops at it
 abbrev stops-at-eight : List ℕ → FileReplayed
 stops-at-eight file = record { machine = fileReplayOf file .machine; run = 0; stop = Stopped Damaged }
 
