@@ -13,7 +13,7 @@ use lib.Dec.{eqb}
 use lib.ListN.{length}
 use Rattle.word.specs.Base.{pick}
 use Rattle.word.specs.Flags.{word, queued}
-use Rattle.word.specs.Number.{thread, node, nodeOf}
+use Rattle.word.specs.Number.{none, thread, node, nodeOf}
 use Rattle.word.specs.declared.number.NodeNumber.{NodeNumber}
 use Rattle.word.specs.declared.number.Owner.{Owner}
 use Rattle.word.specs.declared.number.Owner.the-variants.{Nobody, Thread as Somebody}
@@ -29,7 +29,7 @@ use Rattle.state.specs.declared.holding.Holding.{Holding}
 use Rattle.state.specs.declared.holding.Holding.the-variants.{Nothing, Read, Write}
 use Rattle.state.specs.declared.machine.Machine.{Machine}
 use Rattle.state.specs.declared.place.Place.{Place}
-use Rattle.state.specs.declared.place.Place.the-variants.{ReadUnlockCas, WakePrev}
+use Rattle.state.specs.declared.place.Place.the-variants as At
 use Rattle.state.specs.declared.place.Who.the-variants.{Waiter, Leaver}
 use Rattle.state.specs.declared.place.Walk.the-variants.{Queue}
 use Rattle.state.specs.declared.view.Change.{Change}
@@ -63,13 +63,14 @@ use Rattle.safety.specs.Calls.{logOf, EachCallDoesItsWork}
 
 -- ── programs and runs ──
 
--- the rule of one place with another change made of its change, where it is not refused
-abbrev changing : ℕ → (View → Change → Stepped) → Program
-changing k f = programOf (changedAt k by)
-  where
-    by : View → Stepped → Stepped
-    by v (To c) = f v c
-    by v (Refused r) = Refused r
+-- the program with another rule at the places of p's kind, made of what the right one gives
+abbrev changing : Place → (View → Stepped → Stepped) → Program
+changing p f = programOf (changedAt (which p) f)
+
+-- where it is not refused
+abbrev from : (View → Change → Stepped) → View → Stepped → Stepped
+from f v (To c) = f v c
+from f v (Refused r) = Refused r
 
 abbrev nextOf : Change → Next
 nextOf c = record { place = c .thread .place; answer = c .answer }
@@ -108,7 +109,7 @@ adds-a-thread-refuted holds =
 
 -- 'A downgrade makes its holder a reader': here it holds nothing
 abbrev downgrade-releases : Program
-downgrade-releases = changing 26 (λ v c. writes v (c .word) Nothing (nextOf c))
+downgrade-releases = changing At.DowngradeCas (from (λ v c. writes v (c .word) Nothing (nextOf c)))
 
 abbrev holdsRead : Holding → Bool
 holdsRead Nothing = false
@@ -124,7 +125,7 @@ downgrade-releases-refuted holds =
 
 -- 'try_write: one fetch-or of LOCKED': here it is granted whether LOCKED was set or not
 abbrev grants-anyway : Program
-grants-anyway = programOf (changedAt 3 (λ v s. writes v (v .word) Write (end Done)))
+grants-anyway = changing (At.TryWriteOr false) (λ v s. writes v (v .word) Write (end Done))
 
 abbrev holdsWrite : Holding → Bool
 holdsWrite Nothing = false
@@ -143,7 +144,7 @@ grants-anyway-refuted holds = by (holds 2 (ev 3 0 ∷ ev 16 0 ∷ ev 3 1 ∷ ev 
 
 -- 'write_unlock: strong compare 1 to 0': here it leaves the word
 abbrev leaves-the-word : Program
-leaves-the-word = programOf (changedAt 24 (λ v s. stays v (end Done)))
+leaves-the-word = changing At.WriteUnlockCas (λ v s. stays v (end Done))
 
 abbrev isKeeps : LockEffect → Bool
 isKeeps keeps = true
@@ -163,15 +164,8 @@ leaves-the-word-refuted holds =
 
 -- 'Counting readers in the word while QUEUED is set': here read_unlock takes 16 off the word
 abbrev counts-in-the-word : Program
-counts-in-the-word = programOf rule
-  where
-    uncounted : View → Place → Stepped
-    uncounted v p =
-        pick (eqb (which p) 21) (stays v (at (ReadUnlockCas (v .word))))
-        (pick (eqb (which p) 22) (writes v (word (v .word .0 - 16)) Nothing (end Done)) (advanceOf v p))
-
-    rule : View → Place → Stepped
-    rule v p = pick (queued (v .word)) (uncounted v p) (advanceOf v p)
+counts-in-the-word =
+    changing At.ReadUnlockLoad (λ v s. pick (queued (v .word)) (writes v (word (v .word .0 - 16)) Nothing (end Done)) s)
 
 -- threads 0 and 1 read; thread 2 writes, and registers with its 10th step; thread 0 unlocks
 pub counts-in-the-word-refuted : ReaderCount counts-in-the-word → ⊥
@@ -179,13 +173,13 @@ unfolding ranBy advanceOf accessOf markedOf which readsBelow toSet toTail
 counts-in-the-word-refuted holds = false≢true (holds 3 two-readers .2 .agrees)
   where
     two-readers : List Event
-    two-readers = ev 0 0 ∷ steps 2 0 ++ (ev 0 1 ∷ steps 2 1 ++ (ev 1 2 ∷ steps 10 2 ++ (ev 4 0 ∷ steps 2 0)))
+    two-readers = ev 0 0 ∷ steps 2 0 ++ (ev 0 1 ∷ steps 2 1 ++ (ev 1 2 ∷ steps 10 2 ++ (ev 4 0 ∷ steps 1 0)))
 
 -- ── the lists of waiters ──
 
 -- 'Else fill the node': here it is registered as it was
 abbrev registers-unfilled : Program
-registers-unfilled = changing 4 (λ v c. stays v (nextOf c))
+registers-unfilled = changing (At.ContendLoad false 0) (from (λ v c. stays v (nextOf c)))
 
 abbrev isFine : Verdict → Bool
 isFine Fine = true
@@ -198,12 +192,12 @@ registers-unfilled-refuted holds = false≢true (ap isFine (holds 2 registered .
 -- 'Reading prev after completing a node': here a waker stands on the node that it has completed, to load its prev
 abbrev reads-prev-late : Program
 reads-prev-late =
-    changing 20
-    (λ v c. completes v (c .node) (c .woken) (back (c .woken) (nextOf c)))
+    changing (At.WakeStore Leaver none none)
+    (from (λ v c. completes v (c .node) (c .woken) (back (c .woken) (nextOf c))))
   where
     back : Owner → Next → Next
     back Nobody next = next
-    back (Somebody t) next = at (WakePrev Leaver (nodeOf t))
+    back (Somebody t) next = at (At.WakePrev Leaver (nodeOf t))
 
 abbrev listedLength : Listed → ℕ
 listedLength lost = 0
@@ -221,7 +215,7 @@ reads-prev-late-moves-refuted holds =
 
 -- 'compare to 17 or 0, then complete all': here the queue stays in the word
 abbrev takes-nothing-off : Program
-takes-nothing-off = changing 18 (λ v c. stays v (nextOf c))
+takes-nothing-off = changing (At.TakeCas Leaver (word 0) none) (from (λ v c. stays v (nextOf c)))
 
 abbrev isQueue : Spot → Bool
 isQueue queue = true
@@ -253,7 +247,7 @@ takes-nothing-off-refuted holds =
 
 -- 'then complete all': here it is done with the compare
 abbrev wakes-nobody : Program
-wakes-nobody = programOf (changedAt 18 (λ v s. writes v (word 0) (v .holding) (end Done)))
+wakes-nobody = changing (At.TakeCas Leaver (word 0) none) (λ v s. writes v (word 0) (v .holding) (end Done))
 
 pub wakes-nobody-refuted : StandingIsItsList wakes-nobody → ⊥
 unfolding ranBy advanceOf accessOf markedOf which toSet toTail amongBelow metFrom heldBelow
@@ -264,7 +258,8 @@ wakes-nobody-refuted holds = holds 2 (unlocking 5) (thread 1) (omega arith)
 -- 'Whoever turned QUEUE_LOCKED on runs unlock queue': here whoever registers does
 abbrev walks-always : Program
 walks-always =
-    changing 6 (λ v c. writes v (c .word) (c .thread .holding) (walkFrom (Queue (Waiter false)) (c .word)))
+    changing (At.RegisterCas false 0 (word 0))
+    (from (λ v c. writes v (c .word) (v .holding) (walkFrom (Queue (Waiter false)) (c .word))))
 
 pub walks-always-refuted : OneQueueOwner walks-always → ⊥
 unfolding ranBy advanceOf accessOf markedOf which
@@ -274,7 +269,7 @@ walks-always-refuted holds = holds 2 registered .unlocked refl 1 refl
 
 -- 'Completing stores completed and unparks': here it sets no token
 abbrev sets-no-token : Program
-sets-no-token = changing 20 (λ v c. completes v (c .node) Nobody (nextOf c))
+sets-no-token = changing (At.WakeStore Leaver none none) (from (λ v c. completes v (c .node) Nobody (nextOf c)))
 
 pub sets-no-token-refuted : NobodyStuck sets-no-token → ⊥
 unfolding ranBy advanceOf accessOf markedOf which
@@ -319,7 +314,7 @@ stops-at-eight-refuted holds = holds [] .not-eight refl
 
 -- 'read_unlock: load, then weak compare': here it is done at its load, and nothing is released
 abbrev done-at-the-load : Program
-done-at-the-load = programOf (changedAt 21 (λ v s. pick (queued (v .word)) s (stays v (end Done))))
+done-at-the-load = changing At.ReadUnlockLoad (λ v s. pick (queued (v .word)) s (stays v (end Done)))
 
 -- try_read, granted; then read_unlock
 pub done-at-the-load-refuted : EachCallDoesItsWork done-at-the-load → ⊥
