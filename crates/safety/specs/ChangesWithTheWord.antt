@@ -2,10 +2,10 @@
 -- contended reader's subtraction: who releases or downgrades slowly compares a word that is as queue.rs asserts, or its
 -- compare fails. The statement: Statements.antt.
 -- Assumes nothing.
+use Prim.Native.Nat.{ℕ}
 use mathlib.Core.Bool.{true, false}
 use mathlib.Core.Logic.{_⊎_, inl, inr, ⊎-elim}
 use mathlib.Core.Path.{_≡_, refl, sym, ap, _∙_, subst}
-use Prim.Native.Nat.{ℕ}
 use Rattle.word.specs.Flags.{word, locked, queued, downgraded}
 use Rattle.word.specs.declared.flags.Word.{Word}
 use Rattle.word.specs.declared.number.Owner.{Owner}
@@ -32,6 +32,7 @@ use Rattle.promises.specs.Theorems.{seen, effect-is, step-moves, begun-effect}
 use Rattle.promises.specs.Theorems.{refusal-changes-nothing, refused-has-no-effect}
 use Rattle.queue.specs.Tests.{not-true, not-false}
 use Rattle.invariant.specs.Table.{about}
+use Rattle.invariant.specs.Invariant.{writers, leavers}
 use Rattle.invariant.specs.Beside.{nobody-needs}
 use Rattle.invariant.specs.Bridge.{lockOf}
 use Rattle.invariant.specs.Events.{Ok}
@@ -56,15 +57,19 @@ downgrade-agreed v seen =
 -- who needs the queue to stay finds the word as queue.rs asserts
 needs-contended : (m : Machine) (ok : Ok m) (t : ℕ)
     → about (threadAt m t .place) .needsQueue ≡ true → contended (m .word) ≡ true
-needs-contended m ok t e =
-    let q : queued (m .word) ≡ true = ok .inv .needs t e in
-    let l : locked (m .word) ≡ true =
-    not-false (locked (m .word)) (λ z. nobody-needs (m .count) (lockOf m) (ok .ghost) (ok .inv)
-    (ok .inv .count .unlocked q z .writes) (ok .inv .count .unlocked q z .leaves) t e) in
-    let d : downgraded (m .word) ≡ false =
-    not-true (downgraded (m .word)) (λ z. nobody-needs (m .count) (lockOf m) (ok .ghost) (ok .inv)
-    (ok .inv .count .handed q l z .writes) (ok .inv .count .handed q l z .leaves) t e) in
-    rw (q, l, d)
+needs-contended m ok t e = rw (q, l, d)
+  where
+    gone : writers (m .count) (lockOf m) ≡ 0 → leavers (m .count) (lockOf m) ≡ 0 → ⊥
+    gone w0 l0 = nobody-needs (m .count) (lockOf m) (ok .ghost) (ok .inv) w0 l0 t e
+
+    q : queued (m .word) ≡ true
+    q = ok .inv .needs t e
+
+    l : locked (m .word) ≡ true
+    l = not-false (locked (m .word)) (λ z. let x = ok .inv .count .unlocked q z in gone (x .writes) (x .leaves))
+
+    d : downgraded (m .word) ≡ false
+    d = not-true (downgraded (m .word)) (λ z. let x = ok .inv .count .handed q l z in gone (x .writes) (x .leaves))
 
 -- ── a step ──
 

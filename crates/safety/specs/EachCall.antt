@@ -32,7 +32,6 @@ use Rattle.lock.specs.Still.{idle-is}
 use Rattle.lock.specs.declared.code.Call.{Call}
 use Rattle.promises.specs.Program.{placeOf}
 use Rattle.promises.specs.Refusals.{steps}
-use Rattle.promises.specs.Shared.{lockDone}
 use Rattle.promises.specs.Obeys.{All}
 use Rattle.promises.specs.Happened.{Begun as BegunCall, Stepping, Happened, begun, stepped, happened}
 use Rattle.promises.specs.EndsExactly.{ends, ends-exactly, call-place}
@@ -69,11 +68,9 @@ module _ (m : Machine) (ok : Ok m) (t : ThreadNumber) (g : Log) (d : Tidy t g m)
         → BegunCall m code t (eventOf m code t) → Tidy t (noted (Accepted a w) code did g) next
     begun-tidy a w e b =
         let y = ends-exactly .begin m code t a w (ok .sized) (begin-code code (b .call) (b .codes)) e in
-        subst (λ x. Tidy t (noted (Accepted x w) code did g) next) (sym (y .answer)) (record {
+        rw (y .answer) (record {
           ended = d .ended;
-          now =
-              subst (λ p. Fits (phase p) (threadAt next (t .0) .holding) (callOf code) [])
-              (sym (y .place ∙ sym (call-place code))) (first-fits (callOf code) (threadAt next (t .0) .holding));
+          now = rw (y .place, ← call-place code) (first-fits (callOf code) (threadAt next (t .0) .holding));
         })
 
     -- ── a step ──
@@ -86,16 +83,13 @@ module _ (m : Machine) (ok : Ok m) (t : ThreadNumber) (g : Log) (d : Tidy t g m)
       moved : (c : Call) (xs : List LockEffect) → Fits (phase (placeOf m t)) (threadAt m (t .0) .holding) c xs
           → Then a (placeOf next t) (threadAt next (t .0) .holding) c (also xs did)
       moved c xs f =
-          let rule : Works v (placeOf m t) (s .c) =
-          subst (All (Works v (placeOf m t))) (s .rule) (rule-works v (placeOf m t)) in
-          let made = rule c xs (ok .inv .holding (t .0)) f in
-          let answer = subst (λ x. Then x (s .c .thread .place) (s .c .thread .holding) c
-          (also xs (lockDone v (placeOf m t) (s .c)))) (answered m code t a w e s) made in
-          let effect = subst (λ x. Then a (s .c .thread .place) (s .c .thread .holding) c (also xs x))
-          (sym (effect-is m code t a w e s (ok .sized))) answer in
-          let place = subst (λ x. Then a x (s .c .thread .holding) c (also xs did))
-          (sym (own-place m code t a w e s (ok .sized))) effect in
-          subst (λ x. Then a (placeOf next t) x c (also xs did)) (sym (own-holding m code t a w e s (ok .sized))) place
+          rw (
+            effect-is m code t a w e s (ok .sized),
+            own-place m code t a w e s (ok .sized),
+            own-holding m code t a w e s (ok .sized),
+            ← answered m code t a w e s,
+          )
+          (subst (All (Works v (placeOf m t))) (s .rule) (rule-works v (placeOf m t)) c xs (ok .inv .holding (t .0)) f)
 
       idle-now : ends a ≡ true → placeOf next t ≡ Idle
       idle-now x =
@@ -103,8 +97,8 @@ module _ (m : Machine) (ok : Ok m) (t : ThreadNumber) (g : Log) (d : Tidy t g m)
           (ends-exactly .step m code t a w (ok .sized) (steps-code (s .fails) (s .codes)) e .idle ∙ x)
         where
           steps-code : (f : Bool) → code ≡ pick f 17 16 → steps code ≡ true
-          steps-code true q = subst (λ z. steps z ≡ true) (sym q) refl
-          steps-code false q = subst (λ z. steps z ≡ true) (sym q) refl
+          steps-code true q = rw q
+          steps-code false q = rw q
 
       not-resting : placeOf m t ≡ Idle → ⊥
       unfolding advanceOf
@@ -148,10 +142,7 @@ module _ (m : Machine) (ok : Ok m) (t : ThreadNumber) (g : Log) (d : Tidy t g m)
           let y = changes-little m (e .code) (e .thread) a w q in
           record {
             ended = d .ended;
-            now =
-                subst (λ p. FitsNow (g .now) p (threadAt (after m e) (t .0) .holding))
-                (sym (y .places (t .0) (λ z. ne (sym z))))
-                (subst (λ h. FitsNow (g .now) (placeOf m t) h) (sym (y .holdings (t .0) (λ z. ne (sym z)))) (d .now));
+            now = rw (y .places (t .0) (λ z. ne (sym z)), y .holdings (t .0) (λ z. ne (sym z))) (d .now);
           }
       by (Refused r) q = subst (Tidy t g) (sym (refusal-changes-nothing m (e .code) (e .thread) r q)) d
 

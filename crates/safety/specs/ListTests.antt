@@ -188,17 +188,13 @@ module _ (n : NodeNumber) (some : n .0 ≢ 0) where
     meets (suc left) at found ns before e t =
         by (λ f l. meets left (nodeBy m at .prev) f l (at ∷ before)) (isNone at) refl e
       where
-        onto : Bool → List NodeNumber → Type 0
-        onto b l = Tests b (List·Memᴰ n (reverseAux l before))
-
         by : ((f : Bool) (l : List NodeNumber) → backFrom left m (nodeBy m at .prev) ≡ listed l
             → Tests f (List·Memᴰ n (at ∷ before))
             → Tests (metFrom left m n (nodeBy m at .prev) f) (List·Memᴰ n (reverseAux l (at ∷ before))))
             → (b : Bool) → isNone at ≡ b
             → pick b (listed []) (stand m at (backFrom left m (nodeBy m at .prev))) ≡ listed ns
-            → onto (metFrom left m n (prevOf m at) (sameOr found at n)) ns
-        by r true z g = subst (onto (metFrom left m n (prevOf m at) (sameOr found at n))) (listed-same [] ns g)
-            (subst (λ b. onto b []) (sym over) t)
+            → Tests (metFrom left m n (prevOf m at) (sameOr found at n)) (List·Memᴰ n (reverseAux ns before))
+        by r true z g = rw (over, ← listed-same [] ns g) t
           where
             over : metFrom left m n (prevOf m at) (sameOr found at n) ≡ found
             over =
@@ -206,10 +202,8 @@ module _ (n : NodeNumber) (some : n .0 ≢ 0) where
                 (ap node (sym (eqb-true (at .0) 0 z))) (past-none (suc left) found)
         by r false z g =
             let x = stood m at (backFrom left m (nodeBy m at .prev)) ns g in
-            subst (onto (metFrom left m n (prevOf m at) (sameOr found at n))) (sym (x .all-is))
-            (subst (λ p. onto (metFrom left m n p (sameOr found at n)) (at ∷ x .others))
-            (sym (prev-is m few at (x .there)))
-            (r (sameOr found at n) (x .others) (x .rest-is) (front at found before t)))
+            rw (x .all-is, prev-is m few at (x .there))
+            (r (sameOr found at n) (x .others) (x .rest-is) (front at found before t))
 
     back-list : (at : NodeNumber) (ns : List NodeNumber) → backFrom (m .count) m at ≡ listed ns
         → Tests (metFrom (m .count) m n at false) (List·Memᴰ n ns)

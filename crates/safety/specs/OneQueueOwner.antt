@@ -64,8 +64,7 @@ module _ (m : Machine) (ok : Ok m) where
 
   some-owner : queueLocked (m .word) ≡ true → (t : ℕ) × OneOwner m t
   some-owner e =
-      let x : (t : ℕ) × (1 ≤ weight (owner t)) =
-      sum-some (m .count) (λ t. weight (owner t)) (omega (arith, ok .inv .owners, ap weight e)) in
+      let x = sum-some (m .count) (λ t. weight (owner t)) (omega (arith, ok .inv .owners, ap weight e)) in
       (x .0, one (x .0) (sym (same-part (threadAt m (x .0) .place) .owner) ∙ weighs (owner (x .0)) (x .1)))
 
   pub owned : Owned m
