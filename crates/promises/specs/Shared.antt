@@ -25,6 +25,7 @@ use Rattle.state.specs.declared.place.Place.the-variants.{Idle, TryReadLoad, Tr
 use Rattle.state.specs.declared.view.View.{View}
 use Rattle.state.specs.declared.view.Change.{Change}
 use Rattle.lock.specs.Effect.{LockEffect, lockEffect, standOf, heldAfter, grants}
+use Rattle.lock.specs.Effect.{QueueEffect, stands, registers, setsAside, restores, takesTail, takesAll, completes}
 use Rattle.promises.specs.Refusals.{and}
 
 -- ── what an access may change ──
@@ -148,6 +149,16 @@ wokenBy Subtracting l = Nobody
 wokenBy Complete l = ownerAt l
 wokenBy Parking l = Nobody
 
+-- the whole queue was taken off
+abbrev pub tookAll : QueueEffect → Bool
+tookAll stands = false
+tookAll (registers k) = false
+tookAll (setsAside k) = false
+tookAll (restores k) = false
+tookAll (takesTail k) = false
+tookAll takesAll = true
+tookAll (completes k) = false
+
 -- ── calls that ask for the lock ──
 
 abbrev pub byWaiter : Who → Bool
@@ -234,6 +245,28 @@ isDone Went = false
 isDone Done = true
 isDone Yes = false
 isDone No = false
+
+abbrev pub isNo : Answer → Bool
+isNo Begun = false
+isNo Went = false
+isNo Done = false
+isNo Yes = false
+isNo No = true
+
+abbrev pub isWent : Answer → Bool
+isWent Begun = false
+isWent Went = true
+isWent Done = false
+isWent Yes = false
+isWent No = false
+
+-- done, yes and no end a call
+abbrev pub ends : Answer → Bool
+ends Begun = false
+ends Went = false
+ends Done = true
+ends Yes = true
+ends No = true
 
 -- ── what a step at a place does, as far as the theorems go ──
 
