@@ -27,8 +27,8 @@ use Rattle.promises.specs.Shared.{lockDone}
 use Rattle.promises.specs.Obeys.{All, agrees-word}
 use Rattle.promises.specs.RuleEnds.{release-ends, downgrade-slow-ends}
 use Rattle.promises.specs.Happened.{Stepping, Happened, begun, stepped, happened}
-use Rattle.promises.specs.Statements.{contended, asserted}
-use Rattle.promises.specs.Theorems.{seen, effect-is, step-moves, begun-effect}
+use Rattle.promises.specs.Tables.{contended, asserted}
+use Rattle.promises.specs.Afterwards.{seen, effect-is, step-moves, begun-effect}
 use Rattle.promises.specs.Theorems.{refusal-changes-nothing, refused-has-no-effect}
 use Rattle.queue.specs.Tests.{not-true, not-false}
 use Rattle.invariant.specs.Table.{about}

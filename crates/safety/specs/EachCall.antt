@@ -32,11 +32,11 @@ use Rattle.lock.specs.Still.{idle-is}
 use Rattle.lock.specs.declared.code.Call.{Call}
 use Rattle.promises.specs.Program.{placeOf}
 use Rattle.promises.specs.Refusals.{steps}
-use Rattle.promises.specs.Obeys.{All}
+use Rattle.promises.specs.Shared.{ends}
 use Rattle.promises.specs.Happened.{Begun as BegunCall, Stepping, Happened, begun, stepped, happened}
-use Rattle.promises.specs.EndsExactly.{ends, ends-exactly, call-place}
-use Rattle.promises.specs.Theorems.{seen, answered, own-place, own-holding, effect-is, begin-code}
-use Rattle.promises.specs.Theorems.{changes-little, refusal-changes-nothing}
+use Rattle.promises.specs.EndsExactly.{call-place}
+use Rattle.promises.specs.Afterwards.{begin-code, seen, by-rule, answered, own-place, own-holding, effect-is}
+use Rattle.promises.specs.Theorems.{ends-exactly, changes-little, refusal-changes-nothing}
 use Rattle.invariant.specs.Events.{Ok, event-safe}
 use Rattle.safety.specs.Statements.{Event, after, effectIn, ranBy, ran, reached}
 use Rattle.safety.specs.Calls.{Now, resting, inside, Log, nothingYet, also, noted, logged, logOf}
@@ -89,7 +89,8 @@ module _ (m : Machine) (ok : Ok m) (t : ThreadNumber) (g : Log) (d : Tidy t g m)
             own-holding m code t a w e s (ok .sized),
             ← answered m code t a w e s,
           )
-          (subst (All (Works v (placeOf m t))) (s .rule) (rule-works v (placeOf m t)) c xs (ok .inv .holding (t .0)) f)
+          (by-rule m code t a w e s (Works v (placeOf m t)) (rule-works v (placeOf m t))
+          c xs (ok .inv .holding (t .0)) f)
 
       idle-now : ends a ≡ true → placeOf next t ≡ Idle
       idle-now x =

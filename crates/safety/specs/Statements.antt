@@ -34,7 +34,7 @@ use Rattle.lock.specs.Event.{eventOf}
 use Rattle.lock.specs.Step.{markedOf}
 use Rattle.promises.specs.Program.{Program, placeOf}
 use Rattle.promises.specs.Refusals.{numberGiven}
-use Rattle.promises.specs.Statements.{subtracting}
+use Rattle.promises.specs.Tables.{subtracting}
 use Rattle.schedule.specs.Whole.{fileStopNumber}
 use Rattle.schedule.specs.declared.whole.FileReplayed.{FileReplayed}
 use Rattle.listing.specs.Listing.{Listed, lost, listed, nodeBy, listedOf, waitersOf}

@@ -20,8 +20,7 @@ use Rattle.word.specs.declared.number.Owner.the-variants.{Nobody, Thread as Som
 use Rattle.state.specs.Access.{accessOf}
 use Rattle.state.specs.Machine.{nodeAt, threadAt}
 use Rattle.state.specs.View.{at, end, stays, writes, completes, walkFrom}
-use Rattle.state.specs.declared.answer.Answer.{Answer}
-use Rattle.state.specs.declared.answer.Answer.the-variants.{Begun, Went, Done, Yes, No}
+use Rattle.state.specs.declared.answer.Answer.the-variants.{Done}
 use Rattle.state.specs.declared.answer.Refusal.the-variants.{Damaged}
 use Rattle.state.specs.declared.answer.Verdict.{Verdict}
 use Rattle.state.specs.declared.answer.Verdict.the-variants.{Fine, Refused as Halted}
@@ -43,8 +42,9 @@ use Rattle.lock.specs.Effect.{lockEffect, queueEffect, standOf}
 use Rattle.lock.specs.Event.{eventOf}
 use Rattle.lock.specs.Step.{markedOf, stepOf}
 use Rattle.promises.specs.Program.{Program}
-use Rattle.promises.specs.Mutant.{programOf, which, changedAt}
-use Rattle.promises.specs.Statements.{subtracting}
+use Rattle.promises.specs.Changed.{programOf, which, changedAt}
+use Rattle.promises.specs.Shared.{isDone}
+use Rattle.promises.specs.Tables.{subtracting}
 use Rattle.schedule.specs.Whole.{fileReplayOf}
 use Rattle.schedule.specs.declared.whole.FileReplayed.{FileReplayed}
 use Rattle.schedule.specs.declared.whole.FileStop.the-variants.{Refused as Stopped}
@@ -335,13 +335,6 @@ finishes-at-first-refuted holds =
 -- 'A try that is granted ends with yes, any other with no': here try_write begins as write does, and blocks
 abbrev try-write-blocks : Program
 try-write-blocks m code t = eventOf m (pick (eqb code 3) 1 code) t
-
-abbrev isDone : Answer → Bool
-isDone Begun = false
-isDone Went = false
-isDone Done = true
-isDone Yes = false
-isDone No = false
 
 pub try-write-blocks-refuted : EachCallDoesItsWork try-write-blocks → ⊥
 unfolding logOf ranBy eventOf stepOf advanceOf accessOf markedOf lockEffect standOf
