@@ -75,20 +75,23 @@ from f v (Refused r) = Refused r
 abbrev nextOf : Change → Next
 nextOf c = record { place = c .thread .place; answer = c .answer }
 
-abbrev ev : ℕ → ℕ → Event
-ev code t = record { code = code; thread = thread t }
+abbrev begin : ℕ → ℕ → Event
+begin code t = record { code = code; thread = thread t }
+
+abbrev step : ℕ → Event
+step t = record { code = 16; thread = thread t }
 
 abbrev steps : ℕ → ℕ → List Event
 steps zero t = []
-steps (suc k) t = ev 16 t ∷ steps k t
+steps (suc k) t = step t ∷ steps k t
 
 -- thread 0 writes; thread 1 reads, and registers with its 10th step
 abbrev registered : List Event
-registered = ev 1 0 ∷ ev 16 0 ∷ ev 0 1 ∷ steps 10 1
+registered = begin 1 0 ∷ step 0 ∷ begin 0 1 ∷ steps 10 1
 
 -- ... loads completed, and sleeps; thread 0 begins to unlock
 abbrev unlocking : ℕ → List Event
-unlocking k = registered ++ (ev 16 1 ∷ ev 5 0 ∷ steps k 0)
+unlocking k = registered ++ (step 1 ∷ begin 5 0 ∷ steps k 0)
 
 -- ── the number of threads ──
 
@@ -103,7 +106,7 @@ adds-a-thread m code t =
 pub adds-a-thread-refuted : CountStays adds-a-thread → ⊥
 unfolding ranBy
 adds-a-thread-refuted holds =
-    let e : _≡_ {A = ℕ} 2 1 = holds 1 (ev 0 0 ∷ []) (omega arith) (omega arith) in omega (arith, e)
+    let e : _≡_ {A = ℕ} 2 1 = holds 1 (begin 0 0 ∷ []) (omega arith) (omega arith) in omega (arith, e)
 
 -- ── the plain lock ──
 
@@ -119,7 +122,7 @@ holdsRead Write = false
 pub downgrade-releases-refuted : PlainLock downgrade-releases → ⊥
 unfolding ranBy Plainly upd advanceOf accessOf markedOf which lockEffect standOf
 downgrade-releases-refuted holds =
-    let run = holds 1 (ev 1 0 ∷ ev 16 0 ∷ ev 6 0 ∷ ev 16 0 ∷ []) in
+    let run = holds 1 (begin 1 0 ∷ step 0 ∷ begin 6 0 ∷ step 0 ∷ []) in
     let last = run .2 .2 .2 in
     false≢true (ap (λ h. holdsRead (h 0)) (last .2 ∙ last .1 .1))
 
@@ -134,9 +137,9 @@ holdsWrite Write = true
 
 pub grants-anyway-refuted : MutualExclusion grants-anyway → ⊥
 unfolding ranBy advanceOf accessOf markedOf which
-grants-anyway-refuted holds = by (holds 2 (ev 3 0 ∷ ev 16 0 ∷ ev 3 1 ∷ ev 16 1 ∷ []))
+grants-anyway-refuted holds = by (holds 2 (begin 3 0 ∷ step 0 ∷ begin 3 1 ∷ step 1 ∷ []))
   where
-    by : Whose (holdersOf (reachedBy grants-anyway 2 (ev 3 0 ∷ ev 16 0 ∷ ev 3 1 ∷ ev 16 1 ∷ []))) → ⊥
+    by : Whose (holdersOf (reachedBy grants-anyway 2 (begin 3 0 ∷ step 0 ∷ begin 3 1 ∷ step 1 ∷ []))) → ⊥
     by (nobodys f) = false≢true (sym (ap holdsWrite (f 0)))
     by (readers t e f) = f 0 refl
     by (writers zero e f) = false≢true (sym (ap holdsWrite (f 1 (λ z. omega (arith, z)))))
@@ -158,7 +161,7 @@ pub leaves-the-word-refuted : ChangesWithTheWord leaves-the-word → ⊥
 unfolding ranBy advanceOf accessOf markedOf which lockEffect standOf subtracting
 leaves-the-word-refuted holds =
     ⊎-elim (λ e. false≢true (ap isKeeps e)) (⊎-elim (λ e. false≢true e) (λ e. false≢true e))
-    (holds 1 (ev 1 0 ∷ ev 16 0 ∷ ev 5 0 ∷ []) (ev 16 0))
+    (holds 1 (begin 1 0 ∷ step 0 ∷ begin 5 0 ∷ []) (step 0))
 
 -- ── the readers' number ──
 
@@ -173,7 +176,8 @@ unfolding ranBy advanceOf accessOf markedOf which readsBelow toSet toTail
 counts-in-the-word-refuted holds = false≢true (holds 3 two-readers .2 .agrees)
   where
     two-readers : List Event
-    two-readers = ev 0 0 ∷ steps 2 0 ++ (ev 0 1 ∷ steps 2 1 ++ (ev 1 2 ∷ steps 10 2 ++ (ev 4 0 ∷ steps 1 0)))
+    two-readers =
+        begin 0 0 ∷ steps 2 0 ++ (begin 0 1 ∷ steps 2 1 ++ (begin 1 2 ∷ steps 10 2 ++ (begin 4 0 ∷ step 0 ∷ [])))
 
 -- ── the lists of waiters ──
 
@@ -207,7 +211,7 @@ listedLength (listed ns) = length ns
 pub reads-prev-late-moves-refuted : ListsMove reads-prev-late → ⊥
 unfolding ranBy advanceOf accessOf markedOf which standOf queueEffect backFrom
 reads-prev-late-moves-refuted holds =
-    let move = holds 2 (unlocking 6) (ev 16 0) in
+    let move = holds 2 (unlocking 6) (step 0) in
     let before : length (move .before .wakes 0) ≡ 1 = sym (ap listedLength (move .before .wakes-is 0)) in
     let after : length (move .after .wakes 0) ≡ 1 = sym (ap listedLength (move .after .wakes-is 0)) in
     let own : length (move .before .wakes 0) ≡ suc (length (move .after .wakes 0)) = ap length (move .own .2) in
@@ -285,7 +289,7 @@ sets-no-token-refuted holds = holds 2 (unlocking 7) all 1 (omega arith) (false, 
 -- the walk over a node that was not filled leaves the range
 pub registers-unfilled-eight-refuted : NeverEight registers-unfilled → ⊥
 unfolding ranBy advanceOf accessOf markedOf which
-registers-unfilled-eight-refuted holds = holds 2 (unlocking 4) (ev 16 0) refl
+registers-unfilled-eight-refuted holds = holds 2 (unlocking 4) (step 0) refl
 
 -- a node that has been completed is touched
 pub reads-prev-late-touches-refuted : TouchedAlive reads-prev-late → ⊥
@@ -321,7 +325,7 @@ pub done-at-the-load-refuted : EachCallDoesItsWork done-at-the-load → ⊥
 unfolding logOf ranBy advanceOf accessOf markedOf which lockEffect standOf
 done-at-the-load-refuted holds =
     false≢true (ap (λ l. eqb (length l) 1)
-    (holds 1 (ev 2 0 ∷ ev 16 0 ∷ ev 16 0 ∷ ev 4 0 ∷ ev 16 0 ∷ []) (thread 0) .ended .0 .1))
+    (holds 1 (begin 2 0 ∷ step 0 ∷ step 0 ∷ begin 4 0 ∷ step 0 ∷ []) (thread 0) .ended .0 .1))
 
 -- 'one that finishes a call at its first step and idles later'
 abbrev finishes-at-first : Program
@@ -330,7 +334,7 @@ finishes-at-first = programOf (λ v p. stays v (end Done))
 pub finishes-at-first-refuted : EachCallDoesItsWork finishes-at-first → ⊥
 unfolding logOf ranBy accessOf markedOf lockEffect standOf
 finishes-at-first-refuted holds =
-    false≢true (ap (λ l. eqb (length l) 1) (holds 1 (ev 0 0 ∷ ev 16 0 ∷ []) (thread 0) .ended .0 .1))
+    false≢true (ap (λ l. eqb (length l) 1) (holds 1 (begin 0 0 ∷ step 0 ∷ []) (thread 0) .ended .0 .1))
 
 -- 'A try that is granted ends with yes, any other with no': here try_write begins as write does, and blocks
 abbrev try-write-blocks : Program
@@ -340,4 +344,4 @@ pub try-write-blocks-refuted : EachCallDoesItsWork try-write-blocks → ⊥
 unfolding logOf ranBy eventOf stepOf advanceOf accessOf markedOf lockEffect standOf
 try-write-blocks-refuted holds =
     ⊎-elim (λ e. false≢true (sym (ap isDone (e .0)))) (λ e. false≢true (sym (ap isDone (e .0))))
-    (holds 1 (ev 3 0 ∷ ev 16 0 ∷ []) (thread 0) .ended .0)
+    (holds 1 (begin 3 0 ∷ step 0 ∷ []) (thread 0) .ended .0)
