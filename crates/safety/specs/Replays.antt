@@ -27,8 +27,8 @@ use Rattle.schedule.specs.declared.replay.Replayed.{Replayed as Replay}
 use Rattle.schedule.specs.declared.replay.Stop.{Stop}
 use Rattle.schedule.specs.declared.replay.Stop.the-variants.{Ran, Refused as Stopped}
 use Rattle.invariant.specs.Events.{Ok, event-safe}
-use Rattle.safety.specs.Statements.{Event, ranBy, ran, Replayed, ReplayedSafe}
-use Rattle.safety.specs.Runs.{start, event-not-eight}
+use Rattle.safety.specs.Statements.{Event, ranBy, ran, reached, NeverStopsAtEight, Replayed, ReplayedSafe}
+use Rattle.safety.specs.Runs.{start, reached-ok, event-not-eight}
 
 -- ── events ──
 
@@ -58,6 +58,9 @@ replay-runs m ok (code ∷ t ∷ s) =
       machine = later .machine;
       not-eight = later .not-eight;
     }
+
+pub replay-not-eight : NeverStopsAtEight replayOf
+replay-not-eight n es s = replay-runs (reached n es) (reached-ok n es) s .not-eight
 
 -- ── a file ──
 

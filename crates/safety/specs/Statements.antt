@@ -5,7 +5,7 @@
 -- n is any count asked for (one that is none gives one thread), es any list of events, codes and threads arbitrary; a
 -- refused event changes nothing.
 -- In this order: runs; the plain lock; the readers' number; the lists of waiters, and what the trace says of them; the
--- owner of the queue; no thread left asleep; refusal 8, and the nodes touched; a replayed file.
+-- owner of the queue; no thread left asleep; refusal 8, and the nodes touched; replays.
 -- Not here: that each call does its work, which is said of a log of a thread's calls (Calls.antt).
 -- Assumes nothing.
 use Prim.Native.Nat.{ℕ, _+_, _*_, _≤_, _<_}
@@ -35,7 +35,9 @@ use Rattle.lock.specs.Step.{markedOf}
 use Rattle.promises.specs.Program.{Program, placeOf}
 use Rattle.promises.specs.Refusals.{numberGiven}
 use Rattle.promises.specs.Tables.{subtracting}
+use Rattle.schedule.specs.Replay.{stopNumber}
 use Rattle.schedule.specs.Whole.{fileStopNumber}
+use Rattle.schedule.specs.declared.replay.Replayed.{Replayed as Replay}
 use Rattle.schedule.specs.declared.whole.FileReplayed.{FileReplayed}
 use Rattle.listing.specs.Listing.{Listed, lost, listed, nodeBy, listedOf, waitersOf}
 use Rattle.listing.specs.ReaderCount.{oldest, readersOf}
@@ -345,10 +347,15 @@ pub record Touched (m : Machine) (t : ThreadNumber) : Type 0 where
 abbrev pub TouchedAlive : Program → Type 0
 TouchedAlive event = (n : ℕ) (es : List Event) (t : ThreadNumber) → Touched (reachedBy event n es) t
 
--- ── a replayed file ──
+-- ── replays ──
 
--- the machine that a replay of any file hands back is reached from fresh, so all of the above holds of it; and a replay
--- is never refused 8
+-- a replay from a machine reached from fresh never stops at 8
+abbrev pub NeverStopsAtEight : (Machine → List ℕ → Replay) → Type 0
+NeverStopsAtEight replay =
+    (n : ℕ) (es : List Event) (s : List ℕ) → stopNumber (replay (reached n es) s .stop) ≢ refusalNumber Damaged
+
+-- the machine that a replay of any file hands back is reached from fresh, so all of the above holds of it; and the
+-- replay is never refused 8
 pub record Replayed (replay : FileReplayed) : Type 0 where
   pub count : ℕ
   pub events : List Event

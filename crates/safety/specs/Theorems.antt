@@ -12,6 +12,7 @@ use Rattle.word.specs.declared.number.NodeNumber.{NodeNumber}
 use Rattle.state.specs.Machine.{threadAt, freshOf}
 use Rattle.state.specs.declared.machine.Machine.{Machine}
 use Rattle.lock.specs.Event.{eventOf}
+use Rattle.schedule.specs.Replay.{replayOf}
 use Rattle.schedule.specs.Whole.{fileReplayOf}
 use Rattle.queue.specs.Sums.{sum-zero}
 use Rattle.invariant.specs.Invariant.{readers}
@@ -22,7 +23,7 @@ use Rattle.invariant.specs.Events.{Ok}
 use Rattle.safety.specs.Statements.{reached, CountStays, holdersOf, Plainly, PlainLock, MutualExclusion}
 use Rattle.safety.specs.Statements.{ChangesWithTheWord, ReaderCount, registrations, ListingTotal, ListsMove}
 use Rattle.safety.specs.Statements.{Waits, OnePlace, StandingIsItsList, OneQueueOwner, NobodyStuck, NeverEight}
-use Rattle.safety.specs.Statements.{TouchedAlive, ReplayedSafe}
+use Rattle.safety.specs.Statements.{TouchedAlive, NeverStopsAtEight, ReplayedSafe}
 use Rattle.safety.specs.Calls.{EachCallDoesItsWork}
 use Rattle.safety.specs.Intervals.{down, node-is}
 use Rattle.safety.specs.Runs.{start, reached-ok, reached-count, event-not-eight}
@@ -35,7 +36,7 @@ use Rattle.safety.specs.Spots.{waiter-is, one-spot, spot-waits}
 use Rattle.safety.specs.StandingList.{stands-so}
 use Rattle.safety.specs.OneQueueOwner.{owned}
 use Rattle.safety.specs.Stuck.{Rests, nobody-asleep}
-use Rattle.safety.specs.Replays.{replayed}
+use Rattle.safety.specs.Replays.{replay-not-eight, replayed}
 use Rattle.safety.specs.EachCall.{run-works}
 
 pub count-stays : CountStays eventOf
@@ -144,7 +145,10 @@ touched-alive n es t =
     read {k} (inl e) = inl e
     read {k} (inr w) = inr (waits k w)
 
--- ── a replayed file; each thread's calls ──
+-- ── replays; each thread's calls ──
+
+pub never-stops-at-eight : NeverStopsAtEight replayOf
+never-stops-at-eight = replay-not-eight
 
 pub replayed-safe : ReplayedSafe fileReplayOf
 replayed-safe = replayed

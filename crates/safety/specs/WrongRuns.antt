@@ -45,9 +45,12 @@ use Rattle.promises.specs.Program.{Program}
 use Rattle.promises.specs.Changed.{programOf, which, changedAt}
 use Rattle.promises.specs.Shared.{isDone}
 use Rattle.promises.specs.Tables.{subtracting}
+use Rattle.schedule.specs.Replay.{stoppedOf}
 use Rattle.schedule.specs.Whole.{fileReplayOf}
+use Rattle.schedule.specs.declared.replay.Replayed.{Replayed as Replay}
+use Rattle.schedule.specs.declared.replay.Stop.the-variants.{Refused as Stopped}
 use Rattle.schedule.specs.declared.whole.FileReplayed.{FileReplayed}
-use Rattle.schedule.specs.declared.whole.FileStop.the-variants.{Refused as Stopped}
+use Rattle.schedule.specs.declared.whole.FileStop.the-variants.{Refused as FileStopped}
 use Rattle.listing.specs.Listing.{Listed, lost, listed, listedOf, toSet, toTail}
 use Rattle.listing.specs.ReaderCount.{readsBelow}
 use Rattle.standing.specs.Look.{amongBelow, metFrom}
@@ -58,7 +61,7 @@ use Rattle.safety.specs.Statements.{Event, ranBy, reachedBy, CountStays,
 use Rattle.safety.specs.Statements.{Whose, nobodys, readers, writers, MutualExclusion, ChangesWithTheWord}
 use Rattle.safety.specs.Statements.{ReaderCount, ListingTotal, ListsMove, Waits, Spot, queue, aside, waker, In}
 use Rattle.safety.specs.Statements.{OneSpot, OnePlace, StandingIsItsList, OneQueueOwner, Resting, NobodyStuck}
-use Rattle.safety.specs.Statements.{NeverEight, TouchedAlive, ReplayedSafe}
+use Rattle.safety.specs.Statements.{NeverEight, TouchedAlive, NeverStopsAtEight, ReplayedSafe}
 use Rattle.safety.specs.Calls.{logOf, EachCallDoesItsWork}
 
 -- ── programs and runs ──
@@ -305,14 +308,20 @@ reads-prev-late-touches-refuted holds = ⊎-elim own waits (holds 2 (unlocking 7
         false≢true (sym (subst (λ u. nodeAt (reachedBy reads-prev-late 2 (unlocking 7)) u .completed ≡ false) z
         (w .2 .uncompleted)))
 
--- ── a replayed file ──
+-- ── replays ──
 
--- '8 is never given for a machine reached from fresh': here each file's replay stops at it
-abbrev stops-at-eight : List ℕ → FileReplayed
-stops-at-eight file = record { machine = fileReplayOf file .machine; run = 0; stop = Stopped Damaged }
+-- '8 is never given for a machine reached from fresh': here each replay stops at it, and each file's
+abbrev stops-at-eight : Machine → List ℕ → Replay
+stops-at-eight m s = stoppedOf m 0 (Stopped Damaged)
 
-pub stops-at-eight-refuted : ReplayedSafe stops-at-eight → ⊥
-stops-at-eight-refuted holds = holds [] .not-eight refl
+pub stops-at-eight-refuted : NeverStopsAtEight stops-at-eight → ⊥
+stops-at-eight-refuted holds = holds 1 [] [] refl
+
+abbrev file-stops-at-eight : List ℕ → FileReplayed
+file-stops-at-eight file = record { machine = fileReplayOf file .machine; run = 0; stop = FileStopped Damaged }
+
+pub file-stops-at-eight-refuted : ReplayedSafe file-stops-at-eight → ⊥
+file-stops-at-eight-refuted holds = holds [] .not-eight refl
 
 -- ── each call does its work ──
 
