@@ -30,7 +30,8 @@ use Rattle.invariant.specs.Wake.{Waiter-of, waiter-of}
 use Rattle.invariant.specs.Bridge.{nodeIn, lockOf}
 use Rattle.invariant.specs.Events.{Ok}
 use Rattle.safety.specs.Lists.{turned, queueIn, backFrom, heldBy}
-use Rattle.safety.specs.Intervals.{up, down, length-up, reverse-down, node-is, lists-all, few-tickets, Begins, goes-back}
+use Rattle.safety.specs.Intervals.{up, down, length-up, reverse-down, node-is, lists-all, few-tickets}
+use Rattle.safety.specs.Intervals.{Begins, goes-back}
 
 module _ (m : Machine) (ok : Ok m) where
   abbrev g : Ghost
@@ -89,7 +90,8 @@ module _ (m : Machine) (ok : Ok m) where
     is-looking false e = is-none e
 
     -- a downgrade's is over all that it took
-    is-alone : (seen : Word) (h : ℕ) → part .lo ≤ h → suc h ≡ part .hi → g .log h ≡ toNode seen .0 → Queue part links → Is (turned (followedOf m (toNode seen)))
+    is-alone : (seen : Word) (h : ℕ) → part .lo ≤ h → suc h ≡ part .hi → g .log h ≡ toNode seen .0
+        → Queue part links → Is (turned (followedOf m (toNode seen)))
     is-alone seen h low last head q = ap turned (lists-all m part mine-live mine-range q h last low (toNode seen) (sym head)) ∙ ap listed (reverse-down (g .log) (part .lo) (part .hi - part .lo))
 
     is-one : (tail : NodeNumber) (hd : ℕ) → AsideAt (ticketsOf g) part links hd (tail .0) → Is (listed (tail ∷ []))
@@ -159,7 +161,8 @@ module _ (m : Machine) (ok : Ok m) where
     held-at DowngradeCas w = is-none w
     held-at (DowngradeSlowCas _) w = is-none w
 
-    pub held-is : heldBy m (partOf (threadAt m t .place)) ≡ listed (up (g .log) (g .taken t .beg) (g .taken t .end - g .taken t .beg))
+    pub held-is : heldBy m (partOf (threadAt m t .place))
+        ≡ listed (up (g .log) (g .taken t .beg) (g .taken t .end - g .taken t .beg))
     held-is = held-at (threadAt m t .place) (ok .inv .queue .know t)
 
     -- no more of them than threads

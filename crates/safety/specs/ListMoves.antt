@@ -168,12 +168,20 @@ event-lists m ok e =
     held : After (ok .ghost) (waitOf (threadAt m) (nodeIn (m .nodes))) (ok .inv .queue .parts) (e .thread .0) (effectIn m e .queue) (event-safe m ok (e .thread) (e .code) .ok .ghost)
     held = lists-after (ok .ghost) _ (ok .inv .queue .parts) (e .thread .0) (effectIn m e .queue) (event-safe m ok (e .thread) (e .code) .ok .ghost) (event-safe m ok (e .thread) (e .code) .moved .0)
 
-    moved-aside : AsideAfter (effectIn m e .queue) (asideNow m ok (e .thread .0)) (asideNow (after m e) (safe .ok) (e .thread .0))
-    moved-aside = rw (← same-part (threadAt m (e .thread .0) .place) .aside, ← same-part (threadAt (after m e) (e .thread .0) .place) .aside) (safe .moved .1)
+    moved-aside : AsideAfter (effectIn m e .queue)
+        (asideNow m ok (e .thread .0)) (asideNow (after m e) (safe .ok) (e .thread .0))
+    moved-aside =
+        rw (
+          ← same-part (threadAt m (e .thread .0) .place) .aside,
+          ← same-part (threadAt (after m e) (e .thread .0) .place) .aside,
+        )
+        (safe .moved .1)
 
     same-place : (u : ℕ) → u ≢ e .thread .0 → asideNow (after m e) (safe .ok) u ≡ asideNow m ok u
     same-place u ne = by (eventOf m (e .code) (e .thread) .reply) refl
       where
-        by : (r : Reply) → eventOf m (e .code) (e .thread) .reply ≡ r → asideNow (after m e) (safe .ok) u ≡ asideNow m ok u
+        by : (r : Reply) → eventOf m (e .code) (e .thread) .reply ≡ r
+            → asideNow (after m e) (safe .ok) u ≡ asideNow m ok u
         by (Accepted a w) f = ap (λ p. asideOf (partOf p)) (changes-little m (e .code) (e .thread) a w f .places u ne)
-        by (Refused r) f = ap (λ x. asideOf (partOf (threadAt x u .place))) (refusal-changes-nothing m (e .code) (e .thread) r f)
+        by (Refused r) f =
+            ap (λ x. asideOf (partOf (threadAt x u .place))) (refusal-changes-nothing m (e .code) (e .thread) r f)

@@ -30,7 +30,8 @@ use Rattle.invariant.specs.Table.{about, Lock, Free, Allowed}
 use Rattle.invariant.specs.Invariant.{readers, writers, leavers, Unqueued, empty, written, read, Locked, by-writer, by-readers, by-leaver, Inv}
 use Rattle.invariant.specs.Bridge.{lockOf}
 use Rattle.invariant.specs.Events.{Ok, event-safe}
-use Rattle.safety.specs.Statements.{Event, after, effectIn, ranBy, ran, holdersOf, Allows, Plainly, Whose, nobodys, readers as readersHold, writers as writersHold}
+use Rattle.safety.specs.Statements.{Event, after, effectIn, ranBy, ran, holdersOf, Allows, Plainly}
+use Rattle.safety.specs.Statements.{Whose, nobodys, readers as readersHold, writers as writersHold}
 
 -- ── what is held, by its numbers ──
 

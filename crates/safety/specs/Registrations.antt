@@ -21,7 +21,8 @@ use Rattle.invariant.specs.Events.{Ok, event-safe}
 use Rattle.safety.specs.Intervals.{down, down-same, node-is}
 use Rattle.safety.specs.Held.{listing-is}
 use Rattle.safety.specs.Members.{no-repeats, take-down}
-use Rattle.safety.specs.Statements.{Event, after, effectIn, ranBy, ran, registering, registrations, NoRepeats, Listing}
+use Rattle.safety.specs.Statements.{Event, after, effectIn, ranBy, ran, registering, registrations}
+use Rattle.safety.specs.Statements.{NoRepeats, Listing}
 
 -- all tickets ever, newest first
 abbrev logged : Ghost → List NodeNumber
@@ -48,7 +49,8 @@ pub record Made (m : Machine) (made : List NodeNumber) : Type 0 where
   pub ok : Ok m
   pub is : made ≡ logged (ok .ghost)
 
-pub made-in : (m : Machine) (made : List NodeNumber) → Made m made → (es : List Event) → Made (ran m es) (registrations eventOf m es made)
+pub made-in : (m : Machine) (made : List NodeNumber) → Made m made → (es : List Event)
+    → Made (ran m es) (registrations eventOf m es made)
 unfolding ranBy registrations
 made-in m made r [] = r
 made-in m made r (e ∷ es) =

@@ -42,7 +42,10 @@ made : (n : ℕ) → goodCount n ≡ true → Start (madeOf n)
 made n good = record {
   ok = record {
     good = good;
-    sized = record { nodes = length-replicate threadLimit blankNode; threads = length-replicate threadLimit blankThread };
+    sized = record {
+      nodes = length-replicate threadLimit blankNode;
+      threads = length-replicate threadLimit blankThread;
+    };
     ghost = Q.ghost0;
     inv = subst (λ s. Inv n s Q.ghost0) (sym (lock-fresh n)) (inv-fresh n);
   };
@@ -76,7 +79,9 @@ ran-count m [] = refl
 ran-count m (e ∷ es) = ran-count (after m e) es ∙ same-count m e
 
 pub reached-count : (n : ℕ) (es : List Event) → 1 ≤ n → n ≤ threadLimit → reached n es .count ≡ n
-reached-count n es a b = ran-count (freshOf n .machine) es ∙ pick-both (λ (f : Fresh). f .machine .count ≡ n) (goodCount n) _ _ (λ _. refl) (λ e. never e good)
+reached-count n es a b =
+    ran-count (freshOf n .machine) es
+    ∙ pick-both (λ (f : Fresh). f .machine .count ≡ n) (goodCount n) _ _ (λ _. refl) (λ e. never e good)
   where
     good : goodCount n ≡ true
     good = sym (pick-no (ltb n 1) true false (leb n threadLimit) (le-ltb n 1 a) (sym (le-leb n threadLimit b)))

@@ -102,9 +102,13 @@ module _ (m : Machine) (ok : Ok m) where
   same-spot k queue (waker u) a b e = absurd (omega arith)
   same-spot k (aside t) queue a b e = absurd (omega arith)
   same-spot k (aside t) (aside u) a b e = let z : t ≡ u = omega arith in ap aside z
-  same-spot k (aside t) (waker u) a b e = let z : t ≡ u = omega arith in never (subst (λ v. asideOf (part v) ≡ false) (sym z) (is-waker k u b .0)) (is-aside k t a .0)
+  same-spot k (aside t) (waker u) a b e =
+      let z : t ≡ u = omega arith in
+      never (subst (λ v. asideOf (part v) ≡ false) (sym z) (is-waker k u b .0)) (is-aside k t a .0)
   same-spot k (waker t) queue a b e = absurd (omega arith)
-  same-spot k (waker t) (aside u) a b e = let z : t ≡ u = omega arith in never (is-waker k t a .0) (subst (λ v. asideOf (part v) ≡ true) (sym z) (is-aside k u b .0))
+  same-spot k (waker t) (aside u) a b e =
+      let z : t ≡ u = omega arith in
+      never (is-waker k t a .0) (subst (λ v. asideOf (part v) ≡ true) (sym z) (is-aside k u b .0))
   same-spot k (waker t) (waker u) a b e = let z : t ≡ u = omega arith in ap waker z
 
   -- the spot of a waiter
@@ -125,7 +129,9 @@ module _ (m : Machine) (ok : Ok m) where
   one-spot t w = by (found (nodeOf (thread t)) (covered .0) (covered .1))
     where
       waits : wait (t + 1) ≡ true
-      waits = subst (λ j. wait j ≡ true) (sym (add-one t)) (rw (same-part (threadAt m t .place) .registered ∙ w .registered, w .uncompleted) refl)
+      waits =
+          subst (λ j. wait j ≡ true) (sym (add-one t))
+          (rw (same-part (threadAt m t .place) .registered ∙ w .registered, w .uncompleted) refl)
 
       covered : (g .log (g .tk (t + 1)) ≡ t + 1) × Somewhere g (g .tk (t + 1))
       covered = ok .inv .queue .parts .cover (t + 1) waits
