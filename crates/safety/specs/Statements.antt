@@ -18,7 +18,7 @@ use Rattle.word.specs.Flags.{LOCKED, SINGLE, queued, queueLocked, downgraded}
 use Rattle.word.specs.Number.{none, thread, nodeOf}
 use Rattle.word.specs.declared.number.NodeNumber.{NodeNumber}
 use Rattle.word.specs.declared.number.ThreadNumber.{ThreadNumber}
-use Rattle.state.specs.Access.{accessOf, touchedOf}
+use Rattle.state.specs.Access.{touchedOf}
 use Rattle.state.specs.Answer.{refusalNumber}
 use Rattle.state.specs.Machine.{threadLimit, threadAt, nodeAt, freshOf}
 use Rattle.state.specs.declared.answer.Refusal.the-variants.{Damaged}
@@ -32,7 +32,7 @@ use Rattle.lock.specs.Effect.{QueueEffect, stands, registers, setsAside, restor
 use Rattle.lock.specs.Effect.{Effect, effectOf, wordChanged}
 use Rattle.lock.specs.Event.{eventOf}
 use Rattle.lock.specs.Step.{markedOf}
-use Rattle.promises.specs.Program.{Program, placeOf}
+use Rattle.promises.specs.Program.{Program, placeOf, accessAt}
 use Rattle.promises.specs.Refusals.{numberGiven}
 use Rattle.promises.specs.Tables.{subtracting}
 use Rattle.schedule.specs.Replay.{stopNumber}
@@ -341,7 +341,7 @@ NeverEight event =
 -- the node that thread t's next step accesses is its own or a waiter's; and a waiter's is the tail whose writer mark
 -- its local code reads, if any
 pub record Touched (m : Machine) (t : ThreadNumber) : Type 0 where
-  pub accessed : (touchedOf (accessOf t (placeOf m t)) t ≡ nodeOf t) ⊎ Waits m (touchedOf (accessOf t (placeOf m t)) t)
+  pub accessed : (touchedOf (accessAt m t) t ≡ nodeOf t) ⊎ Waits m (touchedOf (accessAt m t) t)
   pub marked : (markedOf (placeOf m t) ≡ none) ⊎ Waits m (markedOf (placeOf m t))
 
 abbrev pub TouchedAlive : Program → Type 0
