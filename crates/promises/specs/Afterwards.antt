@@ -1,7 +1,8 @@
 -- What is left by an event that was accepted: how the machine after it reads, for every proof about events to cite.
--- In order: the codes; a step that was made (what it saw, what it left, its own thread's record); a call that was begun.
--- Not here: that an accepted event is one of the two (Happened.antt); what the rules do (Obeys.antt, RuleEnds.antt); the
--- theorems (Theorems.antt).
+-- In order: the codes; a step that was made (what it saw, what it left, its own thread's record); a call that was
+-- begun.
+-- Not here: that an accepted event is one of the two (Happened.antt); what the rules do (Obeys.antt, RuleEnds.antt);
+-- the theorems (Theorems.antt).
 -- Assumes nothing.
 use Prim.Native.Nat.{ℕ, _+_}
 use mathlib.Core.Bool.{Bool, true, false, not}

@@ -1,5 +1,6 @@
--- Programs with another rule for the steps: `eventOf` is the one with `advanceOf`. For wrong programs only (Wrong.antt, and
--- crate safety's). In order: the program of a rule; that the right rule gives `eventOf`; the rule of one place changed.
+-- Programs with another rule for the steps: `eventOf` is the one with `advanceOf`. For wrong programs only (Wrong.antt,
+-- and crate safety's). In order: the program of a rule; that the right rule gives `eventOf`; the rule of one place
+-- changed.
 -- Not here: what is wrong with a changed program.
 -- Assumes nothing.
 use Prim.Native.Nat.{ℕ}

@@ -1,23 +1,20 @@
--- Proof of fills-exactly: the own node at an access to the word. In order: what each rule leaves of it, place by place; where
--- the access lies in the word, the node touched is the own one; the machine.
+-- Proof of fills-exactly: the own node at an access to the word. In order: what each rule leaves of it, place by place;
+-- where the access lies in the word, the node touched is the own one; the machine.
 -- Not here: the statement (Statements.antt); the table (Goes.antt).
 -- Assumes nothing.
-use Prim.Native.Nat.{ℕ, _+_, _<_}
-use mathlib.Core.Bool.{Bool, true, false}
+use Prim.Native.Nat.{_+_, _<_}
+use mathlib.Core.Bool.{true, false}
 use mathlib.Core.Path.{_≡_, refl, sym, ap, _∙_}
 use native.Mathlib.Omega.{arith}
 use lib.ListN.{length}
 use lib.Seq.{getD-set-same}
-use Rattle.word.specs.declared.number.Owner.{Owner}
 use Rattle.word.specs.declared.number.ThreadNumber.{ThreadNumber}
 use Rattle.state.specs.Access.{accessOf, touchedAt, touchedOf}
-use Rattle.state.specs.Machine.{Sized, nodeAt}
+use Rattle.state.specs.Machine.{nodeAt}
 use Rattle.state.specs.Node.{blankNode}
 use Rattle.state.specs.declared.access.Location.{Location}
-use Rattle.state.specs.declared.access.Location.the-variants.{Nowhere, Word as TheWord, Next, Prev, Tail, Completed, Token}
-use Rattle.state.specs.declared.answer.Answer.{Answer}
-use Rattle.state.specs.declared.answer.Reply.the-variants.{Accepted}
-use Rattle.state.specs.declared.machine.Machine.{Machine}
+use Rattle.state.specs.declared.access.Location.the-variants.{Nowhere, Word as TheWord, Next, Prev, Tail, Completed}
+use Rattle.state.specs.declared.access.Location.the-variants.{Token}
 use Rattle.state.specs.declared.place.Place.{Place}
 use Rattle.state.specs.declared.place.Place.the-variants as At
 use Rattle.state.specs.declared.place.Walk.the-variants.{Queue, ReadUnlock, Downgrade}
@@ -31,9 +28,11 @@ use Rattle.promises.specs.Afterwards.{never, step-made, by-rule, seen, n
 use Rattle.promises.specs.Goes.{nodeFor}
 use Rattle.promises.specs.Obeys.{All}
 use Rattle.promises.specs.Program.{placeOf, accessAt}
-use Rattle.promises.specs.RuleEnds.{try-read-ends, try-read-cas-ends, try-write-ends, contend-ends, contend-cas-ends}
+use Rattle.promises.specs.RuleEnds.{try-read-ends, try-read-cas-ends, try-write-ends, contend-ends}
+use Rattle.promises.specs.RuleEnds.{contend-cas-ends}
 use Rattle.promises.specs.RuleEnds.{register-ends, completed-ends, park-ends, walk-tail-ends, found-ends}
-use Rattle.promises.specs.RuleEnds.{queue-cas-ends, split-prev-ends, split-cas-ends, take-cas-ends, wake-store-ends}
+use Rattle.promises.specs.RuleEnds.{queue-cas-ends, split-prev-ends, split-cas-ends, take-cas-ends}
+use Rattle.promises.specs.RuleEnds.{wake-store-ends}
 use Rattle.promises.specs.RuleEnds.{read-unlock-ends, read-unlock-cas-ends, subtract-ends, write-unlock-ends}
 use Rattle.promises.specs.RuleEnds.{release-ends, downgrade-ends, downgrade-slow-ends}
 use Rattle.promises.specs.Statements.{FillsExactly}

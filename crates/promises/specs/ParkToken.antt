@@ -1,5 +1,5 @@
--- Proof of park-takes-the-token: what park leaves of the thread's own token. In order: park is the one place that takes it;
--- what its rule gives; the token after.
+-- Proof of park-takes-the-token: what park leaves of the thread's own token. In order: park is the one place that takes
+-- it; what its rule gives; the token after.
 -- Not here: the statement (Statements.antt); the tokens of other threads (OneAccess.antt, WokenOwner.antt).
 -- Assumes nothing.
 use Prim.Native.Nat.{ℕ}
@@ -25,7 +25,6 @@ use Rattle.lock.specs.Advance.{advanceOf}
 use Rattle.lock.specs.Event.{eventOf}
 use Rattle.lock.specs.Landed.{wokenOf}
 use Rattle.promises.specs.Afterwards.{never, fails-17, step-made, by-rule, seen, laid, landed, own-thread, woke}
-use Rattle.promises.specs.Happened.{Stepping}
 use Rattle.promises.specs.Obeys.{All}
 use Rattle.promises.specs.Program.{placeOf, accessAt}
 use Rattle.promises.specs.Refusals.{steps}
@@ -44,7 +43,9 @@ unfolding advanceOf
 parked v writer = park-ends v _ writer (λ f. (rw f, refl)) (λ f. (rw f, refl))
 
 -- a place that takes the token is park
-park-only : (t : ThreadNumber) (p : Place) → takesToken (accessOf t p .kind) ≡ true → (writer : Bool) × (p ≡ At.Park writer)
+park-only : (t : ThreadNumber) (p : Place)
+    → takesToken (accessOf t p .kind) ≡ true
+    → (writer : Bool) × (p ≡ At.Park writer)
 unfolding accessOf
 park-only t At.Idle e = never e
 park-only t (At.TryReadLoad _) e = never e

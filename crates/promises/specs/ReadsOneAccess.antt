@@ -1,5 +1,5 @@
--- Proof of reads-one-access: two machines alike at a thread's access give its event the same. In order: what is read in the
--- two machines; a step; a begin; the event.
+-- Proof of reads-one-access: two machines alike at a thread's access give its event the same. In order: what is read in
+-- the two machines; a step; a begin; the event.
 -- Not here: the statement (Statements.antt); that the rules do the same (Twins.antt).
 -- Assumes nothing.
 use Prim.Native.Nat.{ℕ, _+_, _≤_, _<_}
@@ -19,7 +19,8 @@ use Rattle.word.specs.declared.number.ThreadNumber.{ThreadNumber}
 use Rattle.state.specs.Access.{accessOf, touchedAt, touchedOf}
 use Rattle.state.specs.Machine.{Sized, threadLimit, goodCount, threadAt, nodeAt, blankThread, refusedOf}
 use Rattle.state.specs.declared.access.Location.{Location}
-use Rattle.state.specs.declared.access.Location.the-variants.{Nowhere, Word as TheWord, Next, Prev, Tail, Completed, Token}
+use Rattle.state.specs.declared.access.Location.the-variants.{Nowhere, Word as TheWord, Next, Prev, Tail, Completed}
+use Rattle.state.specs.declared.access.Location.the-variants.{Token}
 use Rattle.state.specs.declared.answer.Refusal.{Refusal}
 use Rattle.state.specs.declared.answer.Refusal.the-variants.{UnknownCode, NoThread, InsideCall, WrongHolding, Damaged}
 use Rattle.state.specs.declared.answer.Reply.the-variants.{Accepted}
@@ -30,7 +31,6 @@ use Rattle.state.specs.declared.machine.Outcome.{Outcome}
 use Rattle.state.specs.declared.machine.Thread.{Thread}
 use Rattle.state.specs.declared.node.Node.{Node}
 use Rattle.state.specs.declared.place.Place.{Place}
-use Rattle.state.specs.declared.place.Place.the-variants as At
 use Rattle.state.specs.declared.view.Mark.the-variants.{Reader, Writer}
 use Rattle.state.specs.declared.view.Stepped.{Stepped}
 use Rattle.state.specs.declared.view.Stepped.the-variants.{To, Refused}
@@ -154,7 +154,9 @@ module _ (t : ThreadNumber) (m m′ : Machine) (z : Sized m) (z′ : Sized m′)
         by (InSlot j) e =
             let f : tail .0 ≡ j + 1 = slot-at tail (m′ .count) j e .0 in
             ap (λ y. pick y Writer Reader)
-            (subst (λ i. nodeAt m i .writer ≡ nodeAt m′ i .writer) (omega (arith, f)) (alike .mark who x tail (here ∙ is) r))
+            (subst (λ i. nodeAt m i .writer ≡ nodeAt m′ i .writer)
+            (omega (arith, f))
+            (alike .mark who x tail (here ∙ is) r))
 
     advanced-same : (fails : Bool) (k : ℕ)
         → touchedAt (accessOf t p .location) t .0 ≡ k + 1
@@ -162,17 +164,18 @@ module _ (t : ThreadNumber) (m m′ : Machine) (z : Sized m) (z′ : Sized m′)
         (advanceOf (viewAt m t k fails p) p)
         (advanceOf (viewAt m′ t k fails p) p)
     advanced-same fails k at =
+        let h = threadAt m (t .0) .holding in
         let mark = markOf m (markedOf p) in
         let mark′ = markOf m′ (markedOf p) in
         let token = threadAt m (t .0) .token in
         let token′ = threadAt m′ (t .0) .token in
         let before = value-in m t l k at (own-token t p .own) in
         let before′ = value-in m′ t l k at (own-token t p .own) in
-        subst (λ h. Twin l (nodeAt m k) (nodeAt m′ k)
+        subst (λ x. Twin l (nodeAt m k) (nodeAt m′ k)
         (advanceOf (viewAt m t k fails p) p)
-        (advanceOf (viewed t (m′ .word) (nodeAt m′ k) mark′ token′ h fails) p))
+        (advanceOf (viewed t (m′ .word) (nodeAt m′ k) mark′ token′ x fails) p))
         (alike .holding)
-        (twins t fails (threadAt m (t .0) .holding) (nodeAt m k) (nodeAt m′ k) mark mark′ token token′ (m .word) (m′ .word) p
+        (twins t fails h (nodeAt m k) (nodeAt m′ k) mark mark′ token token′ (m .word) (m′ .word) p
         (sym before ∙ (value-same ∙ before′))
         marks-same)
 
@@ -199,10 +202,11 @@ module _ (t : ThreadNumber) (m m′ : Machine) (z : Sized m) (z′ : Sized m′)
         by (Halted r) = refused-same r
         by Fine =
             let touched = touchedOf (accessOf t p) t in
+            let slot = slotOf touched (m .count) in
             subst
-            (λ y. Same (touchingBy m t fails p (slotOf touched (m .count))) (touchingBy m′ t fails p (slotOf touched y)))
+            (λ y. Same (touchingBy m t fails p slot) (touchingBy m′ t fails p (slotOf touched y)))
             (alike .count)
-            (touching-same few fails (slotOf touched (m .count)) refl)
+            (touching-same few fails slot refl)
 
     stepped-same : m .count ≤ threadLimit → (fails : Bool) → Same (stepOf m t fails) (stepOf m′ t fails)
     unfolding stepOf
@@ -243,7 +247,9 @@ module _ (t : ThreadNumber) (m m′ : Machine) (z : Sized m) (z′ : Sized m′)
   -- a thread below the count in both, or in neither
   below-same : m .count ≤ threadLimit → (x x′ : Outcome)
       → (t .0 < threadLimit → Same x x′)
-      → Same (pick (leb (m .count) (t .0)) (refusedOf m NoThread) x) (pick (leb (m′ .count) (t .0)) (refusedOf m′ NoThread) x′)
+      → Same
+      (pick (leb (m .count) (t .0)) (refusedOf m NoThread) x)
+      (pick (leb (m′ .count) (t .0)) (refusedOf m′ NoThread) x′)
   below-same few x x′ f =
       both-if Same (leb (m .count) (t .0)) (leb (m′ .count) (t .0)) (ap (λ j. leb j (t .0)) (alike .count))
       (λ _. refused-same NoThread)

@@ -1,5 +1,5 @@
--- Two steps of one place, whose views agree at its access, do the same: the half of reads-one-access that is about rules. In
--- order: what is told of two steps; rules at the word; every place.
+-- Two steps of one place, whose views agree at its access, do the same: the half of reads-one-access that is about
+-- rules. In order: what is told of two steps; rules at the word; every place.
 -- Not here: the machines that the views are of (ReadsOneAccess.antt); the value at an access (Values.antt).
 -- Assumes nothing.
 use Prim.Native.Nat.{ℕ}
@@ -24,7 +24,8 @@ use Rattle.state.specs.Access.{accessOf}
 use Rattle.state.specs.Node.{withNext, withPrev, withTail}
 use Rattle.state.specs.View.{agreesOf}
 use Rattle.state.specs.declared.access.Location.{Location}
-use Rattle.state.specs.declared.access.Location.the-variants.{Nowhere, Word as TheWord, Next, Prev, Tail, Completed, Token}
+use Rattle.state.specs.declared.access.Location.the-variants.{Nowhere, Word as TheWord, Next, Prev, Tail, Completed}
+use Rattle.state.specs.declared.access.Location.the-variants.{Token}
 use Rattle.state.specs.declared.answer.Answer.{Answer}
 use Rattle.state.specs.declared.answer.Answer.the-variants.{Went}
 use Rattle.state.specs.declared.holding.Holding.{Holding}
@@ -264,7 +265,9 @@ module _ (t : ThreadNumber) (fails : Bool) (h : Holding) (n n′ : Node) (k k′
       (markedBy u (withTail n tail) who x tail mark)
       (markedBy (beside n′) (withTail n′ tail) who x tail mark′)
 
-  marked-by : (who : Who) (x : Word) (tail : NodeNumber) (mark mark′ : Mark) → mark ≡ mark′ → MarkedAlike who x tail mark mark′
+  marked-by : (who : Who) (x : Word) (tail : NodeNumber) (mark mark′ : Mark)
+      → mark ≡ mark′
+      → MarkedAlike who x tail mark mark′
   marked-by who x tail mark mark′ e = subst (MarkedAlike who x tail mark) e (by mark)
     where
       by : (y : Mark) → MarkedAlike who x tail y y

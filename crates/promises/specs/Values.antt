@@ -1,8 +1,8 @@
--- The value at an access, read in a machine and in what a step sees and changes of it. In order: bits; the value in a view or a
--- change; a token accessed is one's own; the value before; what is stored, and the value after.
+-- The value at an access, read in a machine and in what a step sees and changes of it. In order: bits; the value in a
+-- view or a change; a token accessed is one's own; the value before; what is stored, and the value after.
 -- Not here: the value at a location of a machine, as the statements read it (Tables.antt).
 -- Assumes nothing.
-use Prim.Native.Nat.{ℕ, _+_, _-_, _<_}
+use Prim.Native.Nat.{ℕ, _+_, _<_}
 use mathlib.Core.Bool.{Bool, true, false}
 use mathlib.Core.Path.{_≡_, refl, ap, _∙_}
 use native.Mathlib.Omega.{arith}
@@ -17,7 +17,8 @@ use Rattle.state.specs.Machine.{Sized, threadLimit, threadAt, nodeAt, blankThre
 use Rattle.state.specs.Node.{blankNode}
 use Rattle.state.specs.declared.access.Access.{Access}
 use Rattle.state.specs.declared.access.Location.{Location}
-use Rattle.state.specs.declared.access.Location.the-variants.{Nowhere, Word as TheWord, Next, Prev, Tail, Completed, Token}
+use Rattle.state.specs.declared.access.Location.the-variants.{Nowhere, Word as TheWord, Next, Prev, Tail, Completed}
+use Rattle.state.specs.declared.access.Location.the-variants.{Token}
 use Rattle.state.specs.declared.machine.Machine.{Machine}
 use Rattle.state.specs.declared.machine.Thread.{Thread}
 use Rattle.state.specs.declared.node.Node.{Node}

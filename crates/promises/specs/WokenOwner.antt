@@ -1,9 +1,9 @@
--- Proof of woken-is-the-owner: whom an event wakes. In order: only completing wakes; the owner of a node of the machine; a step
--- that completes; the theorem.
+-- Proof of woken-is-the-owner: whom an event wakes. In order: only completing wakes; the owner of a node of the
+-- machine; a step that completes; the theorem.
 -- Not here: the statement (Statements.antt).
 -- Assumes nothing.
 use Prim.Native.Nat.{ℕ, _+_, _-_, _≤_, _<_}
-use mathlib.Core.Bool.{Bool, true, false}
+use mathlib.Core.Bool.{true, false}
 use mathlib.Core.Logic.{_≢_}
 use mathlib.Core.Path.{_≡_, refl, sym, ap, _∙_}
 use native.Mathlib.Omega.{arith}
@@ -11,7 +11,6 @@ use lib.Dec.{ltb}
 use lib.ListN.{length, length-set}
 use lib.Seq.{getD-set-same}
 use borrow.Author.Tests.{lt-ltb, le-ltb}
-use Rattle.word.specs.Base.{pick}
 use Rattle.word.specs.Cases.{pick-yes, pick-no}
 use Rattle.word.specs.Number.{thread, ownerOf}
 use Rattle.word.specs.declared.number.NodeNumber.{NodeNumber}
