@@ -126,7 +126,7 @@ step-made m code t a w is-step e = by (happened m code t a w e)
 -- ── a step that was made ──
 
 module _ (m : Machine) (code : ℕ) (t : ThreadNumber) (a : Answer) (w : Owner)
-  (e : eventOf m code t .reply ≡ Accepted a w) (s : Stepping m code t (eventOf m code t)) where
+    (e : eventOf m code t .reply ≡ Accepted a w) (s : Stepping m code t (eventOf m code t)) where
   abbrev pub here : Place
   here = placeOf m t
 

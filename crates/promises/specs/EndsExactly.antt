@@ -178,7 +178,7 @@ step-ends m code t a w z e s =
     let same : s .c .answer ≡ a = answered m code t a w e s in
     let idle : isIdle (placeOf m′ t) ≡ ends a = ap isIdle place ∙ facts .0 ∙ ap ends same in
     let done : isDone a ≡ and (not (tries (placeOf m t))) (isIdle (placeOf m′ t)) =
-        sym (ap isDone same) ∙ facts .2 ∙ sym (ap (λ p. and (not (tries (placeOf m t))) (isIdle p)) place) in
+    sym (ap isDone same) ∙ facts .2 ∙ sym (ap (λ p. and (not (tries (placeOf m t))) (isIdle p)) place) in
     let granted = answered-at-the-grant m code t a w z e .0 in
     record {
       idle = idle;
@@ -196,11 +196,11 @@ begun-ends : (m : Machine) (code : ℕ) (t : ThreadNumber) (a : Answer) (w : Own
 begun-ends m code t a w z begins-it e b =
     let reply : Accepted Begun Nobody ≡ Accepted a w = sym (ap (λ (o : Outcome). o .reply) (b .is)) ∙ e in
     let coded : Begin (callOf code) ≡ Begin (b .call) =
-        pick-yes (leb code 6) (Begin (callOf code)) (Begin (callOf code)) _ begins-it refl ∙ b .codes in
+    pick-yes (leb code 6) (Begin (callOf code)) (Begin (callOf code)) _ begins-it refl ∙ b .codes in
     let call : callOf code ≡ b .call = cc in
     let placed =
-        getD-set-same (m .threads) (t .0) (placedOf (threadAt m (t .0)) (firstPlace (b .call))) blankThread
-        (omega (arith, b .below, good-count (m .count) (b .good) .1, z .threads)) in
+    getD-set-same (m .threads) (t .0) (placedOf (threadAt m (t .0)) (firstPlace (b .call))) blankThread
+    (omega (arith, b .below, good-count (m .count) (b .good) .1, z .threads)) in
     record {
       answer = cc;
       woken = cc;

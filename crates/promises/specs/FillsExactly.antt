@@ -125,9 +125,9 @@ fills-exactly m code t a w z is-step e word =
     let slot = slot-at (touchedOf (accessAt m t) t) (m .count) (s .k) (s .slot) .1 in
     let low : s .k < length (m .nodes) = omega (arith, slot, good-count (m .count) (s .good) .1, z .nodes) in
     let facts : s .c .node ≡ nodeFor t (s .c .thread .place) (nodeAt m (s .k)) =
-        in-word l _ word (by-rule m code t a w e s (Fills v p) (rule-fills v p)) in
+    in-word l _ word (by-rule m code t a w e s (Fills v p) (rule-fills v p)) in
     let there : nodeAt m′ (s .k) ≡ s .c .node =
-        next-node m code t a w e s (s .k) ∙ getD-set-same (m .nodes) (s .k) (s .c .node) blankNode low in
+    next-node m code t a w e s (s .k) ∙ getD-set-same (m .nodes) (s .k) (s .c .node) blankNode low in
     ap (nodeAt m′) (sym own) ∙
     (there ∙
     (facts ∙

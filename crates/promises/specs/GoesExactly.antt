@@ -281,9 +281,9 @@ goes-exactly m code t a w z is-step e =
     let v = seen m code t a w e s in
     let found = valueIn l (m .word) (nodeAt m (s .k)) (threadAt m (t .0) .token) in
     let facts : s .c .thread .place ≡ goesTo t p (s .fails) found (writerOf m) =
-        by-rule m code t a w e s
-        (To (goesTo t p (s .fails) found (writerOf m)))
-        (rule-goes v (writerOf m) p (mark-read m p)) in
+    by-rule m code t a w e s
+    (To (goesTo t p (s .fails) found (writerOf m)))
+    (rule-goes v (writerOf m) p (mark-read m p)) in
     own-place m code t a w e s z ∙
     (facts ∙
     (ap (λ f. goesTo t p f found (writerOf m)) (fails-17 code (s .fails) (s .codes)) ∙

@@ -61,7 +61,7 @@ unless-weak : {S : Type 0} (k : Kind) → k ≡ WeakCompare → Unless (not (isW
 unless-weak {S} k e = rw e (λ x. x)
 
 module _ (m : Machine) (code : ℕ) (t : ThreadNumber) (a : Answer) (w : Owner)
-  (e : eventOf m code t .reply ≡ Accepted a w) (s : Stepping m code t (eventOf m code t)) where
+    (e : eventOf m code t .reply ≡ Accepted a w) (s : Stepping m code t (eventOf m code t)) where
   abbrev m′ : Machine
   m′ = next m code t a w e s
 

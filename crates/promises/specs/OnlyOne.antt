@@ -87,7 +87,7 @@ module _ (p q : Program) (rp : Right p) (rq : Right q) (m : Machine) (code : ℕ
 
   -- both accept: what is the same of an accepted event
   module _ (a a′ : Answer) (w w′ : Owner)
-    (e : p m code t .reply ≡ Accepted a w) (f : q m code t .reply ≡ Accepted a′ w′) where
+      (e : p m code t .reply ≡ Accepted a w) (f : q m code t .reply ≡ Accepted a′ w′) where
     -- the outcome, by the answer, the thread woken, the word, the place, the tokens and the nodes
     outcome-same : a ≡ a′
         → w ≡ w′
@@ -191,7 +191,7 @@ module _ (p q : Program) (rp : Right p) (rq : Right q) (m : Machine) (code : ℕ
               let op : Owned (x .0) w mp = rp .woken .completing m code t a w (x .0) z e (x .1) in
               let oq : Owned (x .0) w′ mq = rq .woken .completing m code t a′ w′ (x .0) z f (x .1) in
               let owner : op .owner .0 + 1 ≡ oq .owner .0 + 1 =
-                  ap (λ (y : NodeNumber). y .0) (op .owns ∙ sym (oq .owns)) in
+              ap (λ (y : NodeNumber). y .0) (op .owns ∙ sym (oq .owns)) in
               op .reported ∙ (ap (λ (y : ℕ). Somebody (thread y)) (omega (arith, owner)) ∙ sym (oq .reported))
           by (inr k) = rp .woken .otherwise m code t a w e k ∙ sym (rq .woken .otherwise m code t a′ w′ f k)
 
@@ -341,12 +341,12 @@ module _ (p q : Program) (rp : Right p) (rq : Right q) (m : Machine) (code : ℕ
           let bad : _≡_ {A = ℕ} 0 1 = cc in absurd (omega arith)
       by (Refused r) (Accepted a w) e f =
           let same : q m code t .reply ≡ Refused r =
-              reply-number (q m code t .reply) r (sym numbers ∙ ap numberGiven e) in
+          reply-number (q m code t .reply) r (sym numbers ∙ ap numberGiven e) in
           let bad : _≡_ {A = ℕ} 0 1 = cc in absurd (omega arith)
       by (Refused r) (Refused r′) e f =
           let machines : mp ≡ mq = rp .unchanged m code t r e ∙ sym (rq .unchanged m code t r′ f) in
           let replies : p m code t .reply ≡ q m code t .reply =
-              e ∙ sym (reply-number (q m code t .reply) r (sym numbers ∙ ap numberGiven e)) in
+          e ∙ sym (reply-number (q m code t .reply) r (sym numbers ∙ ap numberGiven e)) in
           λ k. record { machine = machines k; reply = replies k }
 
 pub only-one : OnlyOne

@@ -89,8 +89,8 @@ token-after m code t a w z parks e is-step =
     let v = seen m code t a w e s in
     let only : (x : Bool) × (placeOf m t ≡ At.Park x) = park-only t (placeOf m t) (ap takesToken parks) in
     let facts : Parked v (s .c) =
-        by-rule m code t a w e s (Parked v)
-        (subst (λ p. All (Parked v) (advanceOf v p)) (sym (only .1)) (parked v (only .0))) in
+    by-rule m code t a w e s (Parked v)
+    (subst (λ p. All (Parked v) (advanceOf v p)) (sym (only .1)) (parked v (only .0))) in
     let nobody : w ≡ Nobody = sym (woke m code t a w e s) ∙ facts .1 in
     ap (λ (x : Machine). threadAt x (t .0) .token) (landed m code t a w e s) ∙
     (ap (λ (o : Owner). threadAt (wokenOf (laid m code t a w e s) o) (t .0) .token) nobody ∙

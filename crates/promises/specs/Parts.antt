@@ -98,9 +98,9 @@ pub machine-is : (x y : Machine)
     → x ≡ y
 machine-is x y sx sy c w n h =
     let nodes : x .nodes ≡ y .nodes =
-        ext-getD blankNode (x .nodes) (y .nodes) (sx .nodes ∙ sym (sy .nodes)) (λ j _. n j) in
+    ext-getD blankNode (x .nodes) (y .nodes) (sx .nodes ∙ sym (sy .nodes)) (λ j _. n j) in
     let threads : x .threads ≡ y .threads =
-        ext-getD blankThread (x .threads) (y .threads) (sx .threads ∙ sym (sy .threads)) (λ u _. h u) in
+    ext-getD blankThread (x .threads) (y .threads) (sx .threads ∙ sym (sy .threads)) (λ u _. h u) in
     λ i. record { count = c i; word = w i; nodes = nodes i; threads = threads i }
 
 -- ── sorts of access ──

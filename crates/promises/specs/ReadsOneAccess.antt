@@ -90,7 +90,7 @@ unfolding accessOf
 idle-nowhere t p e = ap (λ q. accessOf t q .location) (idle-is p e)
 
 module _ (t : ThreadNumber) (m m′ : Machine) (z : Sized m) (z′ : Sized m′) (alike : Alike t m m′)
-  (p : Place) (here : placeOf m t ≡ p) where
+    (p : Place) (here : placeOf m t ≡ p) where
   abbrev l : Location
   l = accessOf t p .location
 
@@ -185,7 +185,7 @@ module _ (t : ThreadNumber) (m m′ : Machine) (z : Sized m) (z′ : Sized m′)
     touching-same few fails Outside e = refused-same Damaged
     touching-same few fails (InSlot k) e =
         let f : (touchedOf (accessOf t p) t .0 ≡ k + 1) × (k < m .count) =
-            slot-at (touchedOf (accessOf t p) t) (m .count) k e in
+        slot-at (touchedOf (accessOf t p) t) (m .count) k e in
         landed-same k (omega (arith, f .1, few)) (f .0)
         (advanceOf (viewAt m t k fails p) p)
         (advanceOf (viewAt m′ t k fails p) p)

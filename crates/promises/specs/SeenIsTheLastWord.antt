@@ -116,9 +116,9 @@ seen-is-the-last-word m code t a w z is-step e x =
     let place : placeOf (eventOf m code t .machine) t ≡ s .c .thread .place = own-place m code t a w e s z in
     let effect = effectOf t m (eventOf m code t .machine) .queue in
     let last : lastBy m t (eventOf m code t .machine)
-            ≡ lastOf t p (m .word) (s .c .word) (queueEffect t p (standOf (s .c .thread .place))) =
-        ap (λ (y : Word). lastOf t p (m .word) y effect) (next-word m code t a w e s) ∙
-        ap (λ (y : Place). lastOf t p (m .word) (s .c .word) (queueEffect t p (standOf y))) place in (
+    ≡ lastOf t p (m .word) (s .c .word) (queueEffect t p (standOf (s .c .thread .place))) =
+    ap (λ (y : Word). lastOf t p (m .word) y effect) (next-word m code t a w e s) ∙
+    ap (λ (y : Place). lastOf t p (m .word) (s .c .word) (queueEffect t p (standOf y))) place in (
       λ q. seen-there _ _ x (facts .0) (sym (ap goesBy place) ∙ q) ∙ sym last,
       λ q. seen-there _ _ x (facts .1) (sym (ap restoresAt place) ∙ q),
     )

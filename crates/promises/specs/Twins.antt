@@ -281,7 +281,7 @@ module _ (t : ThreadNumber) (fails : Bool) (h : Holding) (n n′ : Node) (k k′
   unfolding advanceOf
   found who x tail marks =
       let marked : readsMark x ≡ true → MarkedAlike who x tail k k′ =
-          λ y. marked-by who x tail k k′ (marks who x tail refl y) in
+      λ y. marked-by who x tail k k′ (marks who x tail refl y) in
       both-if (Twin (Tail (toNode x)) n n′) (locked x) (locked x) refl
       (λ y. both-if (Twin (Tail (toNode x)) n n′) (downgraded x) (downgraded x) refl
       (λ z. marked (rw (y, z)))

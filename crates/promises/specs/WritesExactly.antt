@@ -67,7 +67,7 @@ module _ (v : View) where
 
   -- a place whose access is a compare of the word seen, to a new one
   module _ (p : Place) (x : Word) (to : ℕ)
-    (is : (c : Change) → c .word .0 ≡ compared (v .fails) (v .word .0) (x .0) to → Leaves v p c) where
+      (is : (c : Change) → c .word .0 ≡ compared (v .fails) (v .word .0) (x .0) to → Leaves v p c) where
     -- it failed, and the word is kept
     fails : agreesOf v x ≡ false → (s : Stepped) → All Keeps s → All (Leaves v p) s
     fails a (To c) k = is c (k ∙ pick-no (agreesOf v x) (v .word .0) to (v .word .0) a refl)
@@ -257,7 +257,7 @@ writes-exactly m code t a w z is-step e =
     let own-low : t .0 < threadLimit = omega (arith, s .below, few) in
     let own : TokenOwn l t = own-token t p .own in
     let quiet : Quiet l (s .c .woken) =
-        subst (Quiet l) (sym (obeyed m code t a w e s .woken)) (quiet-of (accessAt m t .kind) l) in
+    subst (Quiet l) (sym (obeyed m code t a w e s .woken)) (quiet-of (accessAt m t .kind) l) in
     let found = valueIn l (m .word) (nodeAt m (s .k)) (threadAt m (t .0) .token) in
     ap (λ (o : Outcome). valueAt (o .machine) l) (s .is) ∙
     (stored-value m t z (s .k) low own-low (s .c) l at own quiet ∙

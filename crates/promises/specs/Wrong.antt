@@ -7,24 +7,22 @@
 use Prim.Native.Nat.{ℕ}
 use mathlib.Core.Bool.{Bool, true, false, not, false≢true}
 use mathlib.Core.Path.{_≡_, refl, sym, ap}
+use native.Mathlib.Omega.{arith}
 use lib.Dec.{eqb}
-use lib.ListN.{replicate, set}
 use Rattle.word.specs.Base.{pick}
 use Rattle.word.specs.Flags.{word, queueLocked, downgraded}
 use Rattle.word.specs.Number.{thread, node}
 use Rattle.word.specs.declared.number.Owner.{Owner}
 use Rattle.word.specs.declared.number.Owner.the-variants.{Nobody, Thread as Somebody}
-use Rattle.word.specs.declared.number.ThreadNumber.{ThreadNumber}
 use Rattle.state.specs.Access.{accessOf}
-use Rattle.state.specs.Machine.{Sized, blankThread, refusedOf}
-use Rattle.state.specs.Node.{blankNode, withCompleted}
+use Rattle.state.specs.Machine.{refusedOf}
+use Rattle.state.specs.Node.{withCompleted}
 use Rattle.state.specs.View.{at, end, stays}
 use Rattle.state.specs.declared.answer.Answer.{Answer}
 use Rattle.state.specs.declared.answer.Answer.the-variants.{Begun, Went, Done, Yes, No}
 use Rattle.state.specs.declared.answer.Refusal.the-variants.{UnknownCode}
 use Rattle.state.specs.declared.answer.Reply.{Reply}
 use Rattle.state.specs.declared.answer.Reply.the-variants.{Accepted, Refused}
-use Rattle.state.specs.declared.holding.Holding.{Holding}
 use Rattle.state.specs.declared.holding.Holding.the-variants.{Nothing, Read, Write}
 use Rattle.state.specs.declared.machine.Machine.{Machine}
 use Rattle.state.specs.declared.node.Node.{Node}
@@ -33,7 +31,6 @@ use Rattle.state.specs.declared.place.Place.the-variants as At
 use Rattle.state.specs.declared.place.Walk.the-variants.{Queue}
 use Rattle.state.specs.declared.place.Who.the-variants.{Leaver}
 use Rattle.state.specs.declared.view.Change.{Change}
-use Rattle.state.specs.declared.view.Mark.the-variants.{Reader}
 use Rattle.state.specs.declared.view.Stepped.{Stepped}
 use Rattle.state.specs.declared.view.Stepped.the-variants.{To, Refused as Denied}
 use Rattle.state.specs.declared.view.View.{View}
@@ -42,6 +39,8 @@ use Rattle.lock.specs.Effect.{lockEffect, queueEffect, standOf}
 use Rattle.lock.specs.Event.{eventOf}
 use Rattle.lock.specs.Step.{stepOf, markedOf}
 use Rattle.promises.specs.Changed.{programOf, which, changedAt}
+use Rattle.promises.specs.Changed.{answering, waking, leavingNode, withToken, goingTo, failing, markedReader}
+use Rattle.promises.specs.Changed.{machineAt, standing, only, sized}
 use Rattle.promises.specs.Goes.{goesTo, nodeFor}
 use Rattle.promises.specs.Program.{Program, placeOf}
 use Rattle.promises.specs.Refusals.{thenTouched, subtractsBelow}
@@ -50,69 +49,6 @@ use Rattle.promises.specs.Statements.{RefusalTable, EndsExactly, ReadsOn
 use Rattle.promises.specs.Statements.{FillsExactly, SeenIsTheLastWord, ParkTakesTheToken, WokenIsTheOwner}
 use Rattle.promises.specs.Statements.{OneAccess, NodeAfter, same, accessed, filled, AnsweredAtTheGrant}
 use Rattle.promises.specs.Tables.{Seen, nothing, saw, goesBy, restoresAt, leftBy}
-
--- ── machines to try, and changes to make ──
-
--- one thread, at a place; its node has next and the writer mark as given
-abbrev machineAt : ℕ → Place → Holding → Bool → ℕ → Bool → Machine
-machineAt w p h token next writer =
-    record {
-      count = 1;
-      word = word w;
-      nodes = set (replicate 8 blankNode) 0
-          (record { next = word next; prev = node 0; tail = node 0; writer = writer; completed = false });
-      threads = set (replicate 8 blankThread) 0 (record { place = p; token = token; holding = h });
-    }
-
--- without a token and with a blank node
-abbrev standing : ℕ → Place → Holding → Machine
-standing w p h = machineAt w p h false 0 false
-
-abbrev only : ThreadNumber
-only = thread 0
-
-sized : (w : ℕ) (p : Place) (h : Holding) (token : Bool) (next : ℕ) (writer : Bool)
-    → Sized (machineAt w p h token next writer)
-sized w p h token next writer = record { nodes = refl; threads = refl }
-
--- a step with another answer, another token, another thread woken, another node, gone on to another place
-abbrev answering : (Answer → Answer) → Stepped → Stepped
-answering f (To c) =
-    To (record { word = c .word; node = c .node; thread = c .thread; answer = f (c .answer); woken = c .woken })
-answering f (Denied r) = Denied r
-
-abbrev waking : Owner → Stepped → Stepped
-waking w (To c) = To (record { word = c .word; node = c .node; thread = c .thread; answer = c .answer; woken = w })
-waking w (Denied r) = Denied r
-
-abbrev leavingNode : (Change → Node) → Stepped → Stepped
-leavingNode f (To c) =
-    To (record { word = c .word; node = f c; thread = c .thread; answer = c .answer; woken = c .woken })
-leavingNode f (Denied r) = Denied r
-
-abbrev withToken : Bool → Stepped → Stepped
-withToken token (To c) =
-    To
-    (record {
-      word = c .word;
-      node = c .node;
-      thread = record { place = c .thread .place; token = token; holding = c .thread .holding };
-      answer = c .answer;
-      woken = c .woken;
-    })
-withToken token (Denied r) = Denied r
-
-abbrev goingTo : (Place → Place) → Stepped → Stepped
-goingTo f (To c) =
-    To
-    (record {
-      word = c .word;
-      node = c .node;
-      thread = record { place = f (c .thread .place); token = c .thread .token; holding = c .thread .holding };
-      answer = c .answer;
-      woken = c .woken;
-    })
-goingTo f (Denied r) = Denied r
 
 -- ── document 01's four ──
 
@@ -175,7 +111,7 @@ unfolding advanceOf accessOf markedOf which isNobody
 wakes-on-retracting-refuted holds =
     let p = At.ReadUnlockCas (word 31) in
     let woken = holds .otherwise (standing 31 p Read) 16 only Done (Somebody (thread 0)) refl in
-    false≢true (ap isNobody (woken (λ e. let bad : _≡_ {A = ℕ} 0 1 = cc in false≢true (ap (λ n. eqb n 1) bad))))
+    false≢true (ap isNobody (woken (λ e. let bad : _≡_ {A = ℕ} 0 1 = cc in omega arith)))
 
 -- restoring the new head's tail after a failed split
 unfoldable pub atNewHead : Place → Place
@@ -326,16 +262,15 @@ unfolding advanceOf accessOf markedOf which
 subtraction-reads-the-word-refuted holds =
     let p = At.Subtract (word 0) (node 1) in
     let same = holds (machineAt 0 p Read false 32 false) (machineAt 4 p Read false 32 false) 16 only
-        (sized 0 p Read false 32 false)
-        (sized 4 p Read false 32 false)
-        (record {
-          count = refl;
-          place = refl;
-          holding = refl;
-          value = refl;
-          mark = λ who seen tail e.
-              let bad : _≡_ {A = ℕ} 0 1 = cc in absurd (false≢true (ap (λ n. eqb n 1) bad));
-        }) in
+    (sized 0 p Read false 32 false)
+    (sized 4 p Read false 32 false)
+    (record {
+      count = refl;
+      place = refl;
+      holding = refl;
+      value = refl;
+      mark = λ who seen tail e. let bad : _≡_ {A = ℕ} 0 1 = cc in absurd (omega arith);
+    }) in
     false≢true (sym (ap (λ n. eqb n 16) (same .value)))
 
 -- the load of completed also reads the token
@@ -347,16 +282,15 @@ unfolding advanceOf accessOf markedOf which
 load-reads-the-token-refuted holds =
     let p = At.CompletedLoad false in
     let same = holds (machineAt 0 p Nothing false 0 false) (machineAt 0 p Nothing true 0 false) 16 only
-        (sized 0 p Nothing false 0 false)
-        (sized 0 p Nothing true 0 false)
-        (record {
-          count = refl;
-          place = refl;
-          holding = refl;
-          value = refl;
-          mark = λ who seen tail e.
-              let bad : _≡_ {A = ℕ} 0 1 = cc in absurd (false≢true (ap (λ n. eqb n 1) bad));
-        }) in
+    (sized 0 p Nothing false 0 false)
+    (sized 0 p Nothing true 0 false)
+    (record {
+      count = refl;
+      place = refl;
+      holding = refl;
+      value = refl;
+      mark = λ who seen tail e. let bad : _≡_ {A = ℕ} 0 1 = cc in absurd (omega arith);
+    }) in
     false≢true (ap (λ q. eqb (which q) 7) (same .place))
 
 -- ── a rule that goes by an old word ──
@@ -403,18 +337,6 @@ park-keeps-refuted holds =
 -- ── rules that only the tables tell from the right ones ──
 
 -- a compare that never succeeds: try_read's
-abbrev failing : View → View
-failing v =
-    record {
-      me = v .me;
-      word = v .word;
-      node = v .node;
-      mark = v .mark;
-      token = v .token;
-      holding = v .holding;
-      fails = true;
-    }
-
 abbrev pub neverSucceeds : Program
 neverSucceeds = programOf (λ v p. pick (eqb (which p) 2) (advanceOf (failing v) p) (advanceOf v p))
 
@@ -438,18 +360,6 @@ tries-for-ever-refuted holds =
     (holds (standing 1 p Nothing) 16 only Went Nobody (sized 1 p Nothing false 0 false) refl refl))
 
 -- a queue never split: every tail's mark is read as a reader's
-abbrev markedReader : View → View
-markedReader v =
-    record {
-      me = v .me;
-      word = v .word;
-      node = v .node;
-      mark = Reader;
-      token = v .token;
-      holding = v .holding;
-      fails = v .fails;
-    }
-
 abbrev pub neverSplits : Program
 neverSplits = programOf (λ v p. advanceOf (markedReader v) p)
 
