@@ -11,7 +11,7 @@ use mathlib.Core.Logic.{_⊎_, inl, inr, ⊎-elim}
 use mathlib.Core.Path.{_≡_, refl, sym, ap, subst, _∙_}
 use native.Mathlib.Omega.{arith}
 use borrow.Author.Tests.{leb-true, eqb-true}
-use lib.Dec.{T, leb, eqb}
+use lib.Dec.{leb, eqb}
 use lib.ListN.{getD}
 use lib.Seq.{getD-set-same}
 use Rattle.word.specs.Base.{pick}
@@ -53,10 +53,6 @@ use Rattle.promises.specs.Shared.{Obeys, lockDone}
 use Rattle.promises.specs.Tables.{asserted, subtracting}
 
 -- ── codes ──
-
--- what is false is not true
-pub never : {A : Type 0} → false ≡ true → A
-never e = absurd (subst T (sym e) tt)
 
 -- a code that begins does not step
 pub begin-or-step : (code : ℕ) → begins code ≡ true → steps code ≡ true → ⊥

@@ -36,11 +36,12 @@ use Rattle.lock.specs.declared.code.Call.{Call}
 use Rattle.lock.specs.declared.code.Call.the-variants.{Read, Write, TryRead, TryWrite, ReadUnlock, WriteUnlock}
 use Rattle.lock.specs.declared.code.Call.the-variants.{Downgrade}
 use Rattle.lock.specs.declared.code.Code.the-variants.{Begin}
-use Rattle.promises.specs.Afterwards.{never, step-made, step-not-begin, by-rule, seen, own-place, answered}
+use Rattle.promises.specs.Afterwards.{step-made, step-not-begin, by-rule, seen, own-place, answered}
 use Rattle.promises.specs.Afterwards.{begun-is}
 use Rattle.promises.specs.Grants.{answered-at-the-grant}
 use Rattle.promises.specs.Happened.{Begun as BegunCall, Stepping, Happened, begun, stepped, happened}
 use Rattle.promises.specs.Obeys.{All}
+use Rattle.promises.specs.Places.{never}
 use Rattle.promises.specs.Program.{placeOf}
 use Rattle.promises.specs.Refusals.{and, begins}
 use Rattle.promises.specs.RuleEnds.{try-read-ends, try-read-cas-ends, try-write-ends, contend-ends}

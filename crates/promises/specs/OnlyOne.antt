@@ -30,11 +30,11 @@ use Rattle.state.specs.declared.machine.Machine.{Machine}
 use Rattle.state.specs.declared.place.Place.{Place}
 use Rattle.lock.specs.Begin.{isIdle}
 use Rattle.lock.specs.Effect.{effectOf, lockEffect, standOf, heldAfter, grants}
-use Rattle.promises.specs.Afterwards.{never}
 use Rattle.promises.specs.Goes.{nodeFor}
 use Rattle.promises.specs.Obeys.{kept-same}
 use Rattle.promises.specs.Parts.{same?, owner-is, nobody-not, is-thread, answer-is, thread-is, machine-is}
 use Rattle.promises.specs.Parts.{Sort, sorts, kept-is}
+use Rattle.promises.specs.Places.{never}
 use Rattle.promises.specs.Program.{Program, placeOf, accessAt}
 use Rattle.promises.specs.RefusalFirst.{NoneGiven, past, none-exactly}
 use Rattle.promises.specs.RefusalProofs.{reply-number}

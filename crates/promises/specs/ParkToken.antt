@@ -24,8 +24,9 @@ use Rattle.state.specs.declared.view.View.{View}
 use Rattle.lock.specs.Advance.{advanceOf}
 use Rattle.lock.specs.Event.{eventOf}
 use Rattle.lock.specs.Landed.{wokenOf}
-use Rattle.promises.specs.Afterwards.{never, fails-17, step-made, by-rule, seen, laid, landed, own-thread, woke}
+use Rattle.promises.specs.Afterwards.{fails-17, step-made, by-rule, seen, laid, landed, own-thread, woke}
 use Rattle.promises.specs.Obeys.{All}
+use Rattle.promises.specs.Places.{never}
 use Rattle.promises.specs.Program.{placeOf, accessAt}
 use Rattle.promises.specs.Refusals.{steps}
 use Rattle.promises.specs.RuleEnds.{park-ends}

@@ -32,7 +32,7 @@ use Rattle.state.specs.declared.machine.Thread.{Thread}
 use Rattle.state.specs.declared.node.Node.{Node}
 use Rattle.state.specs.declared.place.Place.{Place}
 use Rattle.state.specs.declared.place.Place.the-variants as At
-use Rattle.promises.specs.Afterwards.{never}
+use Rattle.promises.specs.Places.{never}
 use Rattle.promises.specs.Shared.{writesWord, takesToken, keptBy, fieldAt, fills, isYes, isDone, isNo, isWent}
 use Rattle.promises.specs.Tables.{bit, valueAt}
 use Rattle.promises.specs.Values.{bit-same}

@@ -4,7 +4,7 @@
 -- Assumes nothing.
 use Prim.Native.Nat.{ℕ, _+_, _≤_, _<_}
 use mathlib.Core.Bool.{Bool, true, false}
-use mathlib.Core.Logic.{inl}
+use mathlib.Core.Logic.{_⊎_, inl}
 use mathlib.Core.Path.{_≡_, refl, sym, ap, subst, _∙_}
 use native.Mathlib.Omega.{arith}
 use borrow.Author.Tests.{leb-false}
@@ -29,8 +29,8 @@ use Rattle.state.specs.declared.answer.Verdict.the-variants.{Fine, Refused as H
 use Rattle.state.specs.declared.machine.Machine.{Machine}
 use Rattle.state.specs.declared.machine.Outcome.{Outcome}
 use Rattle.state.specs.declared.machine.Thread.{Thread}
-use Rattle.state.specs.declared.node.Node.{Node}
 use Rattle.state.specs.declared.place.Place.{Place}
+use Rattle.state.specs.declared.view.Change.{Change}
 use Rattle.state.specs.declared.view.Mark.the-variants.{Reader, Writer}
 use Rattle.state.specs.declared.view.Stepped.{Stepped}
 use Rattle.state.specs.declared.view.Stepped.the-variants.{To, Refused}
@@ -45,32 +45,15 @@ use Rattle.lock.specs.Still.{idle-is}
 use Rattle.lock.specs.declared.code.Call.{Call}
 use Rattle.lock.specs.declared.code.Code.{Code}
 use Rattle.lock.specs.declared.code.Code.the-variants.{Begin, Step, Fail, Unknown}
-use Rattle.promises.specs.Afterwards.{never}
+use Rattle.promises.specs.Places.{never}
 use Rattle.promises.specs.Program.{placeOf}
 use Rattle.promises.specs.Statements.{Alike, DoSame, ReadsOneAccess}
-use Rattle.promises.specs.Tables.{bit, valueAt}
-use Rattle.promises.specs.Twins.{FilledAlike, filled-if, Told, Twin, both-if, viewed, Marks, twins}
-use Rattle.promises.specs.Values.{Quiet, TokenOwn, SameToken, own-token, value-in}
+use Rattle.promises.specs.Tables.{bit, valueAt, inWord}
+use Rattle.promises.specs.Twins.{FilledAlike, Told, Twin, both-if, viewed, Marks, twins}
+use Rattle.promises.specs.Values.{in-word, own-touched, Quiet, TokenOwn, SameToken, own-token, value-in}
 use Rattle.promises.specs.Values.{storing, stored-node, stored-place, stored-holding, stored-value}
 
 -- ── what is read in the two machines ──
-
--- the own node is the one touched, where the access lies in the word
-filled-own : (t : ThreadNumber) (k : ℕ) (l : Location) (a a′ b b′ : ℕ → Node) (x x′ : Node)
-    → touchedAt l t .0 ≡ k + 1
-    → b k ≡ x
-    → b′ k ≡ x′
-    → FilledAlike l (a k) (a′ k) x x′
-    → FilledAlike l (a (t .0)) (a′ (t .0)) (b (t .0)) (b′ (t .0))
-filled-own t k Nowhere a a′ b b′ x x′ e f f′ h = tt
-filled-own t k TheWord a a′ b b′ x x′ e f f′ h =
-    let there : FilledAlike TheWord (a k) (a′ k) (b k) (b′ k) = rw (f, f′) h in
-    subst (λ j. FilledAlike TheWord (a j) (a′ j) (b j) (b′ j)) (omega (arith, e)) there
-filled-own t k (Next n) a a′ b b′ x x′ e f f′ h = tt
-filled-own t k (Prev n) a a′ b b′ x x′ e f f′ h = tt
-filled-own t k (Tail n) a a′ b b′ x x′ e f f′ h = tt
-filled-own t k (Completed n) a a′ b b′ x x′ e f f′ h = tt
-filled-own t k (Token u) a a′ b b′ x x′ e f f′ h = tt
 
 same-token : (l : Location) (t : ThreadNumber) (m m′ : Machine)
     → TokenOwn l t
@@ -116,6 +99,21 @@ module _ (t : ThreadNumber) (m m′ : Machine) (z : Sized m) (z′ : Sized m′)
 
   module _ (own-low : t .0 < threadLimit) where
     module _ (k : ℕ) (low : k < threadLimit) (at : touchedAt (accessOf t p .location) t .0 ≡ k + 1) where
+      -- node j kept in both machines, or the same in both
+      abbrev NodeAlike : Change → Change → ℕ → Type 0
+      NodeAlike c c′ j =
+          ((nodeAt (storing m t k c) j ≡ nodeAt m j) × (nodeAt (storing m′ t k c′) j ≡ nodeAt m′ j))
+          ⊎ (nodeAt (storing m t k c) j ≡ nodeAt (storing m′ t k c′) j)
+
+      own-same : (c c′ : Change)
+          → FilledAlike (accessOf t p .location) (nodeAt m k) (nodeAt m′ k) (c .node) (c′ .node)
+          → inWord (accessOf t p .location) ≡ true
+          → NodeAlike c c′ (t .0)
+      own-same c c′ filled word =
+          let touched : NodeAlike c c′ k =
+          rw (stored-node m t z k low own-low c, stored-node m′ t z′ k low own-low c′) (in-word l _ word filled) in
+          subst (NodeAlike c c′) (omega (arith, at, own-touched l t word)) touched
+
       landed-same : (x x′ : Stepped)
           → Twin (accessOf t p .location) (nodeAt m k) (nodeAt m′ k) x x′
           → Same (landedOf m (t .0) k x) (landedOf m′ (t .0) k x′)
@@ -130,14 +128,7 @@ module _ (t : ThreadNumber) (m m′ : Machine) (z : Sized m) (z′ : Sized m′)
                 (ap (λ (y : Told). y .holding) told ∙ sym (stored-holding m′ t z′ k low own-low c′));
             value = stored-value m t z k low own-low c l at own quiet ∙
                 (ap (λ (y : Told). y .value) told ∙ sym (stored-value m′ t z′ k low own-low c′ l at own quiet′));
-            own = filled-if l _ _ _ _
-                (filled-own t k l (nodeAt m) (nodeAt m′) (nodeAt (storing m t k c)) (nodeAt (storing m′ t k c′))
-                (c .node)
-                (c′ .node)
-                at
-                (stored-node m t z k low own-low c)
-                (stored-node m′ t z′ k low own-low c′)
-                filled);
+            own = own-same c c′ filled;
           }
       landed-same (To c) (Refused r) h = absurd h
       landed-same (Refused r) (To c) h = absurd h

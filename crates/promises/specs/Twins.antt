@@ -24,7 +24,7 @@ use Rattle.state.specs.Access.{accessOf}
 use Rattle.state.specs.Node.{withNext, withPrev, withTail}
 use Rattle.state.specs.View.{agreesOf}
 use Rattle.state.specs.declared.access.Location.{Location}
-use Rattle.state.specs.declared.access.Location.the-variants.{Nowhere, Word as TheWord, Next, Prev, Tail, Completed}
+use Rattle.state.specs.declared.access.Location.the-variants.{Word as TheWord, Next, Prev, Tail, Completed}
 use Rattle.state.specs.declared.access.Location.the-variants.{Token}
 use Rattle.state.specs.declared.answer.Answer.{Answer}
 use Rattle.state.specs.declared.answer.Answer.the-variants.{Went}
@@ -47,34 +47,15 @@ use Rattle.acquire.specs.declared.lock_contended.Permitted.the-variants.{To as 
 use Rattle.unlock.specs.AfterWalk.{markedBy}
 use Rattle.release.specs.ReadUnlock.{readUnlockBy, readUnlockCasBy}
 use Rattle.lock.specs.Advance.{advanceOf}
-use Rattle.promises.specs.Afterwards.{never}
+use Rattle.promises.specs.Places.{never}
 use Rattle.promises.specs.Statements.{readsMark}
-use Rattle.promises.specs.Tables.{inWord}
-use Rattle.promises.specs.Values.{bit-same, valueIn, Quiet}
+use Rattle.promises.specs.Values.{bit-same, valueIn, InWord, Quiet}
 
 -- ── what is told of two steps ──
 
 -- the own node, where the access lies in the word: kept in both machines, or filled alike
 abbrev pub FilledAlike : Location → Node → Node → Node → Node → Type 0
-FilledAlike Nowhere n n′ after after′ = Unit {0}
-FilledAlike TheWord n n′ after after′ = ((after ≡ n) × (after′ ≡ n′)) ⊎ (after ≡ after′)
-FilledAlike (Next k) n n′ after after′ = Unit {0}
-FilledAlike (Prev k) n n′ after after′ = Unit {0}
-FilledAlike (Tail k) n n′ after after′ = Unit {0}
-FilledAlike (Completed k) n n′ after after′ = Unit {0}
-FilledAlike (Token u) n n′ after after′ = Unit {0}
-
-pub filled-if : (l : Location) (n n′ a a′ : Node)
-    → FilledAlike l n n′ a a′
-    → inWord l ≡ true
-    → ((a ≡ n) × (a′ ≡ n′)) ⊎ (a ≡ a′)
-filled-if Nowhere n n′ a a′ f e = never e
-filled-if TheWord n n′ a a′ f e = f
-filled-if (Next k) n n′ a a′ f e = never e
-filled-if (Prev k) n n′ a a′ f e = never e
-filled-if (Tail k) n n′ a a′ f e = never e
-filled-if (Completed k) n n′ a a′ f e = never e
-filled-if (Token u) n n′ a a′ f e = never e
+FilledAlike l n n′ after after′ = InWord l (((after ≡ n) × (after′ ≡ n′)) ⊎ (after ≡ after′))
 
 -- what others learn of a step, and what it leaves at its access
 pub record Told : Type 0 where
