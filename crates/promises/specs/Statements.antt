@@ -345,10 +345,10 @@ AnsweredAtTheGrant event =
 
 -- ── all together ──
 
--- the statements that leave no choice. A reader who believes them has to believe their tables: refusalRows
--- (Refusals.antt); tries, fills, writesWord, takesToken and keptBut (Shared.antt); beginsAt, valueAt and leftBy
--- (Tables.antt); goesTo and nodeFor (Goes.antt); accessOf (state); lockEffect, standOf, heldAfter and grants (lock,
--- Effect.antt); and the words of word's Rules.antt
+-- the statements that leave no choice. A reader who believes them has to believe what they cite: refusalRows
+-- (Refusals.antt); tries, acquires, fills, writesWord, takesToken and keptBut (Shared.antt); valueAt, beginsAt and
+-- leftBy (Tables.antt); goesTo and nodeFor (Goes.antt); accessOf and filledOf (state); lockEffect, standOf, heldAfter
+-- and grants (lock, Effect.antt); the words of the lock's rules (word, Rules.antt), by the call permittedOf (acquire)
 pub record Right (event : Program) : Type 0 where
   pub table : RefusalTable event
   pub unchanged : RefusedUnchanged event
