@@ -1,7 +1,8 @@
 -- What is left by an event that was accepted: how the machine after it reads, for every proof about events to cite.
--- In order: the codes; a step that was made (what it saw, what it left, its own thread's record); a call that was begun.
--- Not here: that an accepted event is one of the two (Happened.antt); what the rules do (Obeys.antt, RuleEnds.antt); the
--- theorems (Theorems.antt).
+-- In order: the codes; a step that was made (what it saw, what it left, its own thread's record); a call that was
+-- begun.
+-- Not here: that an accepted event is one of the two (Happened.antt); what the rules do (Obeys.antt, RuleEnds.antt);
+-- the theorems (Theorems.antt).
 -- Assumes nothing.
 use Prim.Native.Nat.{ℕ, _+_}
 use mathlib.Core.Bool.{Bool, true, false, not}
@@ -10,7 +11,7 @@ use mathlib.Core.Logic.{_⊎_, inl, inr, ⊎-elim}
 use mathlib.Core.Path.{_≡_, refl, sym, ap, subst, _∙_}
 use native.Mathlib.Omega.{arith}
 use borrow.Author.Tests.{leb-true, eqb-true}
-use lib.Dec.{T, leb, eqb}
+use lib.Dec.{leb, eqb}
 use lib.ListN.{getD}
 use lib.Seq.{getD-set-same}
 use Rattle.word.specs.Base.{pick}
@@ -52,10 +53,6 @@ use Rattle.promises.specs.Shared.{Obeys, lockDone}
 use Rattle.promises.specs.Tables.{asserted, subtracting}
 
 -- ── codes ──
-
--- what is false is not true
-pub never : {A : Type 0} → false ≡ true → A
-never e = absurd (subst T (sym e) tt)
 
 -- a code that begins does not step
 pub begin-or-step : (code : ℕ) → begins code ≡ true → steps code ≡ true → ⊥
@@ -125,7 +122,7 @@ step-made m code t a w is-step e = by (happened m code t a w e)
 -- ── a step that was made ──
 
 module _ (m : Machine) (code : ℕ) (t : ThreadNumber) (a : Answer) (w : Owner)
-  (e : eventOf m code t .reply ≡ Accepted a w) (s : Stepping m code t (eventOf m code t)) where
+    (e : eventOf m code t .reply ≡ Accepted a w) (s : Stepping m code t (eventOf m code t)) where
   abbrev pub here : Place
   here = placeOf m t
 

@@ -1,25 +1,37 @@
--- Programs with another rule for the steps: `eventOf` is the one with `advanceOf`. For wrong programs only (Wrong.antt, and
--- crate safety's). In order: the program of a rule; that the right rule gives `eventOf`; the rule of one place changed.
+-- Programs with another rule for the steps: `eventOf` is the one with `advanceOf`. For wrong programs only (Wrong.antt,
+-- and crate safety's).
+-- In order: the program of a rule; that the right rule gives `eventOf`; the rule of one place changed; changes to make;
+-- machines to try them on.
 -- Not here: what is wrong with a changed program.
 -- Assumes nothing.
 use Prim.Native.Nat.{ℕ}
 use mathlib.Core.Bool.{Bool, true, false}
 use mathlib.Core.Path.{_≡_, refl, ap}
 use lib.Dec.{leb, eqb}
+use lib.ListN.{replicate, set}
 use Rattle.word.specs.Base.{pick}
-use Rattle.word.specs.Number.{slotOf}
-use Rattle.word.specs.declared.number.Slot.{Slot}
+use Rattle.word.specs.Flags.{word}
+use Rattle.word.specs.Number.{slotOf, thread, node}
+use Rattle.word.specs.declared.number.Owner.{Owner}
 use Rattle.word.specs.declared.number.Slot.the-variants.{Outside, At as InSlot}
+use Rattle.word.specs.declared.number.Slot.{Slot}
 use Rattle.word.specs.declared.number.ThreadNumber.{ThreadNumber}
 use Rattle.state.specs.Access.{touchedOf}
-use Rattle.state.specs.Machine.{goodCount, threadAt, refusedOf}
+use Rattle.state.specs.Machine.{goodCount, threadAt, refusedOf, Sized, blankThread}
+use Rattle.state.specs.Node.{blankNode}
+use Rattle.state.specs.declared.answer.Answer.{Answer}
 use Rattle.state.specs.declared.answer.Refusal.the-variants.{UnknownCode, NoThread, Damaged}
-use Rattle.state.specs.declared.answer.Verdict.{Verdict}
 use Rattle.state.specs.declared.answer.Verdict.the-variants.{Fine, Refused as Halted}
+use Rattle.state.specs.declared.answer.Verdict.{Verdict}
+use Rattle.state.specs.declared.holding.Holding.{Holding}
 use Rattle.state.specs.declared.machine.Machine.{Machine}
 use Rattle.state.specs.declared.machine.Outcome.{Outcome}
-use Rattle.state.specs.declared.place.Place.{Place}
+use Rattle.state.specs.declared.node.Node.{Node}
 use Rattle.state.specs.declared.place.Place.the-variants as At
+use Rattle.state.specs.declared.place.Place.{Place}
+use Rattle.state.specs.declared.view.Change.{Change}
+use Rattle.state.specs.declared.view.Mark.the-variants.{Reader}
+use Rattle.state.specs.declared.view.Stepped.the-variants.{To, Refused as Denied}
 use Rattle.state.specs.declared.view.Stepped.{Stepped}
 use Rattle.state.specs.declared.view.View.{View}
 use Rattle.lock.specs.Advance.{advanceOf}
@@ -28,8 +40,8 @@ use Rattle.lock.specs.Code.{codeOf}
 use Rattle.lock.specs.Event.{eventBy, eventOf}
 use Rattle.lock.specs.Landed.{landedOf}
 use Rattle.lock.specs.Step.{haltedOf, viewAt, touchingBy, stepBy, stepOf}
-use Rattle.lock.specs.declared.code.Code.{Code}
 use Rattle.lock.specs.declared.code.Code.the-variants.{Begin, Step, Fail, Unknown}
+use Rattle.lock.specs.declared.code.Code.{Code}
 use Rattle.promises.specs.Program.{Program, placeOf, accessAt}
 
 -- ── the program of a rule ──
@@ -125,3 +137,93 @@ which (At.DowngradeSlowCas _) = 27
 -- the rule at one place replaced by what is made of the view and of what the right rule gives
 abbrev pub changedAt : ℕ → (View → Stepped → Stepped) → Rule
 changedAt k change v p = pick (eqb (which p) k) (change v (advanceOf v p)) (advanceOf v p)
+
+-- ── changes to make ──
+
+-- a step with another answer, another token, another thread woken, another node, gone on to another place
+abbrev pub answering : (Answer → Answer) → Stepped → Stepped
+answering f (To c) =
+    To (record { word = c .word; node = c .node; thread = c .thread; answer = f (c .answer); woken = c .woken })
+answering f (Denied r) = Denied r
+
+abbrev pub waking : Owner → Stepped → Stepped
+waking w (To c) = To (record { word = c .word; node = c .node; thread = c .thread; answer = c .answer; woken = w })
+waking w (Denied r) = Denied r
+
+abbrev pub leavingNode : (Change → Node) → Stepped → Stepped
+leavingNode f (To c) =
+    To (record { word = c .word; node = f c; thread = c .thread; answer = c .answer; woken = c .woken })
+leavingNode f (Denied r) = Denied r
+
+abbrev pub withToken : Bool → Stepped → Stepped
+withToken token (To c) =
+    To
+    (record {
+      word = c .word;
+      node = c .node;
+      thread = record { place = c .thread .place; token = token; holding = c .thread .holding };
+      answer = c .answer;
+      woken = c .woken;
+    })
+withToken token (Denied r) = Denied r
+
+abbrev pub goingTo : (Place → Place) → Stepped → Stepped
+goingTo f (To c) =
+    To
+    (record {
+      word = c .word;
+      node = c .node;
+      thread = record { place = f (c .thread .place); token = c .thread .token; holding = c .thread .holding };
+      answer = c .answer;
+      woken = c .woken;
+    })
+goingTo f (Denied r) = Denied r
+
+-- a view in which every step is made to fail, or every tail found is a reader's
+abbrev pub failing : View → View
+failing v =
+    record {
+      me = v .me;
+      word = v .word;
+      node = v .node;
+      mark = v .mark;
+      token = v .token;
+      holding = v .holding;
+      fails = true;
+    }
+
+abbrev pub markedReader : View → View
+markedReader v =
+    record {
+      me = v .me;
+      word = v .word;
+      node = v .node;
+      mark = Reader;
+      token = v .token;
+      holding = v .holding;
+      fails = v .fails;
+    }
+
+-- ── machines to try them on ──
+
+-- one thread, at a place; its node has next and the writer mark as given
+abbrev pub machineAt : ℕ → Place → Holding → Bool → ℕ → Bool → Machine
+machineAt w p h token next writer =
+    record {
+      count = 1;
+      word = word w;
+      nodes = set (replicate 8 blankNode) 0
+          (record { next = word next; prev = node 0; tail = node 0; writer = writer; completed = false });
+      threads = set (replicate 8 blankThread) 0 (record { place = p; token = token; holding = h });
+    }
+
+-- without a token and with a blank node
+abbrev pub standing : ℕ → Place → Holding → Machine
+standing w p h = machineAt w p h false 0 false
+
+abbrev pub only : ThreadNumber
+only = thread 0
+
+pub sized : (w : ℕ) (p : Place) (h : Holding) (token : Bool) (next : ℕ) (writer : Bool)
+    → Sized (machineAt w p h token next writer)
+sized w p h token next writer = record { nodes = refl; threads = refl }

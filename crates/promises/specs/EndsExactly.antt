@@ -1,5 +1,5 @@
--- Proof of ends-exactly: how calls begin and end. In order: what each rule ends with, place by place; what is left over for
--- `no`; the place of a code; a step and a begin.
+-- Proof of ends-exactly: how calls begin and end. In order: what each rule ends with, place by place; what is left over
+-- for `no`; the place of a code; a step and a begin.
 -- Not here: the statement (Statements.antt); yes at the grant (Grants.antt).
 -- Assumes nothing.
 use Prim.Native.Nat.{ℕ}
@@ -33,17 +33,22 @@ use Rattle.lock.specs.Code.{callOf}
 use Rattle.lock.specs.Event.{eventOf}
 use Rattle.lock.specs.Laws.{good-count}
 use Rattle.lock.specs.declared.code.Call.{Call}
-use Rattle.lock.specs.declared.code.Call.the-variants.{Read, Write, TryRead, TryWrite, ReadUnlock, WriteUnlock, Downgrade}
+use Rattle.lock.specs.declared.code.Call.the-variants.{Read, Write, TryRead, TryWrite, ReadUnlock, WriteUnlock}
+use Rattle.lock.specs.declared.code.Call.the-variants.{Downgrade}
 use Rattle.lock.specs.declared.code.Code.the-variants.{Begin}
-use Rattle.promises.specs.Afterwards.{never, step-made, step-not-begin, by-rule, seen, own-place, answered, begun-is}
+use Rattle.promises.specs.Afterwards.{step-made, step-not-begin, by-rule, seen, own-place, answered}
+use Rattle.promises.specs.Afterwards.{begun-is}
 use Rattle.promises.specs.Grants.{answered-at-the-grant}
 use Rattle.promises.specs.Happened.{Begun as BegunCall, Stepping, Happened, begun, stepped, happened}
 use Rattle.promises.specs.Obeys.{All}
+use Rattle.promises.specs.Places.{never}
 use Rattle.promises.specs.Program.{placeOf}
 use Rattle.promises.specs.Refusals.{and, begins}
-use Rattle.promises.specs.RuleEnds.{try-read-ends, try-read-cas-ends, try-write-ends, contend-ends, contend-cas-ends}
+use Rattle.promises.specs.RuleEnds.{try-read-ends, try-read-cas-ends, try-write-ends, contend-ends}
+use Rattle.promises.specs.RuleEnds.{contend-cas-ends}
 use Rattle.promises.specs.RuleEnds.{register-ends, completed-ends, park-ends, walk-tail-ends, found-ends}
-use Rattle.promises.specs.RuleEnds.{queue-cas-ends, split-prev-ends, split-cas-ends, take-cas-ends, wake-store-ends}
+use Rattle.promises.specs.RuleEnds.{queue-cas-ends, split-prev-ends, split-cas-ends, take-cas-ends}
+use Rattle.promises.specs.RuleEnds.{wake-store-ends}
 use Rattle.promises.specs.RuleEnds.{read-unlock-ends, read-unlock-cas-ends, subtract-ends, write-unlock-ends}
 use Rattle.promises.specs.RuleEnds.{release-ends, downgrade-ends, downgrade-slow-ends}
 use Rattle.promises.specs.Shared.{tries, isYes, isDone, isNo, isWent, ends}
@@ -153,7 +158,10 @@ call-place code =
     (first (eqb code 3) TryWrite _ _ _ refl
     (first (eqb code 4) ReadUnlock _ _ _ refl (first (eqb code 5) WriteUnlock Downgrade _ _ refl refl)))))
   where
-    first : (b : Bool) (x y : Call) (p q : Place) → firstPlace x ≡ p → firstPlace y ≡ q → firstPlace (pick b x y) ≡ pick b p q
+    first : (b : Bool) (x y : Call) (p q : Place)
+        → firstPlace x ≡ p
+        → firstPlace y ≡ q
+        → firstPlace (pick b x y) ≡ pick b p q
     first true x y p q f g = f
     first false x y p q f g = g
 
@@ -171,12 +179,13 @@ step-ends m code t a w z e s =
     let same : s .c .answer ≡ a = answered m code t a w e s in
     let idle : isIdle (placeOf m′ t) ≡ ends a = ap isIdle place ∙ facts .0 ∙ ap ends same in
     let done : isDone a ≡ and (not (tries (placeOf m t))) (isIdle (placeOf m′ t)) =
-        sym (ap isDone same) ∙ facts .2 ∙ sym (ap (λ p. and (not (tries (placeOf m t))) (isIdle p)) place) in
+    sym (ap isDone same) ∙ facts .2 ∙ sym (ap (λ p. and (not (tries (placeOf m t))) (isIdle p)) place) in
+    let granted = answered-at-the-grant m code t a w z e .0 in
     record {
       idle = idle;
       went = sym (ap isWent same) ∙ facts .1 ∙ sym (ap (λ p. not (isIdle p)) place);
       done = done;
-      no = left-over a (tries (placeOf m t)) (isIdle (placeOf m′ t)) _ idle done (answered-at-the-grant m code t a w z e .0);
+      no = left-over a (tries (placeOf m t)) (isIdle (placeOf m′ t)) _ idle done granted;
     }
 
 begun-ends : (m : Machine) (code : ℕ) (t : ThreadNumber) (a : Answer) (w : Owner)
@@ -188,11 +197,11 @@ begun-ends : (m : Machine) (code : ℕ) (t : ThreadNumber) (a : Answer) (w : Own
 begun-ends m code t a w z begins-it e b =
     let reply : Accepted Begun Nobody ≡ Accepted a w = sym (ap (λ (o : Outcome). o .reply) (b .is)) ∙ e in
     let coded : Begin (callOf code) ≡ Begin (b .call) =
-        pick-yes (leb code 6) (Begin (callOf code)) (Begin (callOf code)) _ begins-it refl ∙ b .codes in
+    pick-yes (leb code 6) (Begin (callOf code)) (Begin (callOf code)) _ begins-it refl ∙ b .codes in
     let call : callOf code ≡ b .call = cc in
     let placed =
-        getD-set-same (m .threads) (t .0) (placedOf (threadAt m (t .0)) (firstPlace (b .call))) blankThread
-        (omega (arith, b .below, good-count (m .count) (b .good) .1, z .threads)) in
+    getD-set-same (m .threads) (t .0) (placedOf (threadAt m (t .0)) (firstPlace (b .call))) blankThread
+    (omega (arith, b .below, good-count (m .count) (b .good) .1, z .threads)) in
     record {
       answer = cc;
       woken = cc;

@@ -1,23 +1,16 @@
--- Proof of fills-exactly: the own node at an access to the word. In order: what each rule leaves of it, place by place; where
--- the access lies in the word, the node touched is the own one; the machine.
+-- Proof of fills-exactly: the own node at an access to the word. In order: what each rule leaves of it, place by place;
+-- the machine.
 -- Not here: the statement (Statements.antt); the table (Goes.antt).
 -- Assumes nothing.
-use Prim.Native.Nat.{ℕ, _+_, _<_}
-use mathlib.Core.Bool.{Bool, true, false}
+use Prim.Native.Nat.{_<_}
+use mathlib.Core.Bool.{true, false}
 use mathlib.Core.Path.{_≡_, refl, sym, ap, _∙_}
 use native.Mathlib.Omega.{arith}
 use lib.ListN.{length}
 use lib.Seq.{getD-set-same}
-use Rattle.word.specs.declared.number.Owner.{Owner}
-use Rattle.word.specs.declared.number.ThreadNumber.{ThreadNumber}
-use Rattle.state.specs.Access.{accessOf, touchedAt, touchedOf}
-use Rattle.state.specs.Machine.{Sized, nodeAt}
+use Rattle.state.specs.Access.{accessOf, touchedOf}
+use Rattle.state.specs.Machine.{nodeAt}
 use Rattle.state.specs.Node.{blankNode}
-use Rattle.state.specs.declared.access.Location.{Location}
-use Rattle.state.specs.declared.access.Location.the-variants.{Nowhere, Word as TheWord, Next, Prev, Tail, Completed, Token}
-use Rattle.state.specs.declared.answer.Answer.{Answer}
-use Rattle.state.specs.declared.answer.Reply.the-variants.{Accepted}
-use Rattle.state.specs.declared.machine.Machine.{Machine}
 use Rattle.state.specs.declared.place.Place.{Place}
 use Rattle.state.specs.declared.place.Place.the-variants as At
 use Rattle.state.specs.declared.place.Walk.the-variants.{Queue, ReadUnlock, Downgrade}
@@ -27,30 +20,23 @@ use Rattle.state.specs.declared.view.View.{View}
 use Rattle.lock.specs.Advance.{advanceOf}
 use Rattle.lock.specs.Event.{eventOf}
 use Rattle.lock.specs.Laws.{slot-at, good-count}
-use Rattle.promises.specs.Afterwards.{never, step-made, by-rule, seen, next-node, touched, own-place}
+use Rattle.promises.specs.Afterwards.{step-made, by-rule, seen, next-node, touched, own-place}
 use Rattle.promises.specs.Goes.{nodeFor}
 use Rattle.promises.specs.Obeys.{All}
 use Rattle.promises.specs.Program.{placeOf, accessAt}
-use Rattle.promises.specs.RuleEnds.{try-read-ends, try-read-cas-ends, try-write-ends, contend-ends, contend-cas-ends}
+use Rattle.promises.specs.RuleEnds.{try-read-ends, try-read-cas-ends, try-write-ends, contend-ends}
+use Rattle.promises.specs.RuleEnds.{contend-cas-ends}
 use Rattle.promises.specs.RuleEnds.{register-ends, completed-ends, park-ends, walk-tail-ends, found-ends}
-use Rattle.promises.specs.RuleEnds.{queue-cas-ends, split-prev-ends, split-cas-ends, take-cas-ends, wake-store-ends}
+use Rattle.promises.specs.RuleEnds.{queue-cas-ends, split-prev-ends, split-cas-ends, take-cas-ends}
+use Rattle.promises.specs.RuleEnds.{wake-store-ends}
 use Rattle.promises.specs.RuleEnds.{read-unlock-ends, read-unlock-cas-ends, subtract-ends, write-unlock-ends}
 use Rattle.promises.specs.RuleEnds.{release-ends, downgrade-ends, downgrade-slow-ends}
 use Rattle.promises.specs.Statements.{FillsExactly}
-use Rattle.promises.specs.Tables.{inWord}
+use Rattle.promises.specs.Values.{InWord, in-word, own-touched}
 
 -- ── what each rule leaves of the own node ──
 
--- a claim where the access lies in the word
-abbrev InWord : Location → Type 0 → Type 0
-InWord Nowhere X = Unit {0}
-InWord TheWord X = X
-InWord (Next k) X = Unit {0}
-InWord (Prev k) X = Unit {0}
-InWord (Tail k) X = Unit {0}
-InWord (Completed k) X = Unit {0}
-InWord (Token u) X = Unit {0}
-
+-- the own node is the one of the table, where the access lies in the word
 abbrev Fills : View → Place → Change → Type 0
 Fills v p c = InWord (accessOf (v .me) p .location) (c .node ≡ nodeFor (v .me) (c .thread .place) (v .node))
 
@@ -93,26 +79,6 @@ rule-fills v (At.ReleaseCas x) = release-ends v _ x (λ _. refl) (λ _. refl) re
 rule-fills v At.DowngradeCas = downgrade-ends v _ (λ _. refl) refl
 rule-fills v (At.DowngradeSlowCas x) = downgrade-slow-ends v _ x (λ _. refl) (λ _. refl) refl
 
--- ── where the access lies in the word ──
-
-in-word : (l : Location) (X : Type 0) → inWord l ≡ true → InWord l X → X
-in-word Nowhere X e f = never e
-in-word TheWord X e f = f
-in-word (Next k) X e f = never e
-in-word (Prev k) X e f = never e
-in-word (Tail k) X e f = never e
-in-word (Completed k) X e f = never e
-in-word (Token u) X e f = never e
-
-own-touched : (l : Location) (t : ThreadNumber) → inWord l ≡ true → touchedAt l t .0 ≡ t .0 + 1
-own-touched Nowhere t e = refl
-own-touched TheWord t e = refl
-own-touched (Next k) t e = never e
-own-touched (Prev k) t e = never e
-own-touched (Tail k) t e = never e
-own-touched (Completed k) t e = never e
-own-touched (Token u) t e = refl
-
 -- ── the machine ──
 
 pub fills-exactly : FillsExactly eventOf
@@ -126,9 +92,9 @@ fills-exactly m code t a w z is-step e word =
     let slot = slot-at (touchedOf (accessAt m t) t) (m .count) (s .k) (s .slot) .1 in
     let low : s .k < length (m .nodes) = omega (arith, slot, good-count (m .count) (s .good) .1, z .nodes) in
     let facts : s .c .node ≡ nodeFor t (s .c .thread .place) (nodeAt m (s .k)) =
-        in-word l _ word (by-rule m code t a w e s (Fills v p) (rule-fills v p)) in
+    in-word l _ word (by-rule m code t a w e s (Fills v p) (rule-fills v p)) in
     let there : nodeAt m′ (s .k) ≡ s .c .node =
-        next-node m code t a w e s (s .k) ∙ getD-set-same (m .nodes) (s .k) (s .c .node) blankNode low in
+    next-node m code t a w e s (s .k) ∙ getD-set-same (m .nodes) (s .k) (s .c .node) blankNode low in
     ap (nodeAt m′) (sym own) ∙
     (there ∙
     (facts ∙

@@ -1,8 +1,9 @@
--- The other two tables of docs/PLACES.md: where a step goes on to, by its place, what was found at its access and, where a
--- walk for unlock queue ends, the tail's writer mark; and the own node, filled or not, by where its thread then stands.
--- Document 01's step rules, one row a place, in the order of docs/PLACES.md. First what a judged word leads to, in the order
--- of document 01's step rules: try_read, contend, find tail, unlock queue, read_unlock.
--- Not here: what is found and what is left at the access (Tables.antt). That a step follows the tables: Statements.antt.
+-- The other two tables of docs/PLACES.md: where a step goes on to, by its place, what was found at its access and,
+-- where a walk for unlock queue ends, the tail's writer mark; and the own node, filled or not, by where its thread then
+-- stands. Document 01's step rules, one row a place, in the order of docs/PLACES.md. First what a judged word leads to,
+-- in the order of document 01's step rules: try_read, contend, find tail, unlock queue, read_unlock.
+-- Not here: what is found and what is left at the access (Tables.antt). That a step follows the tables:
+-- Statements.antt.
 -- Assumes nothing.
 use Prim.Native.Nat.{ℕ, _+_, _-_}
 use mathlib.Core.Bool.{Bool, true, false}
@@ -80,7 +81,9 @@ overFor Leaver = At.Idle
 -- unlock queue, the tail's mark read: a writer's without DOWNGRADED is split off, in all other cases the queue is taken
 abbrev pub markedOn : Who → Word → NodeNumber → Bool → Place
 markedOn who seen tail writer =
-    pick writer (pick (downgraded seen) (At.TakeCas who seen tail) (At.SplitPrev who seen tail)) (At.TakeCas who seen tail)
+    pick writer
+    (pick (downgraded seen) (At.TakeCas who seen tail) (At.SplitPrev who seen tail))
+    (At.TakeCas who seen tail)
 
 -- the tail found: unlock queue leaves waking to the holder with LOCKED and without DOWNGRADED, else it reads the mark
 abbrev pub walkedOn : Walk → Word → NodeNumber → Bool → Place

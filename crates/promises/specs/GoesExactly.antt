@@ -1,5 +1,5 @@
--- Proof of goes-exactly: where a step goes on to. In order: choices of steps and of places; what a judged word leads to; every
--- place; the tail's mark; the machine.
+-- Proof of goes-exactly: where a step goes on to. In order: choices of steps and of places; what a judged word leads
+-- to; every place; the tail's mark; the machine.
 -- Not here: the statement (Statements.antt); the table (Goes.antt).
 -- Assumes nothing.
 use Prim.Native.Nat.{ℕ, _+_, _-_}
@@ -13,26 +13,21 @@ use Rattle.word.specs.Number.{isNone, ownerOf, slotOf}
 use Rattle.word.specs.Rules.{readLockOf, registeredOf, readUnlockOf}
 use Rattle.word.specs.declared.flags.Word.{Word}
 use Rattle.word.specs.declared.number.NodeNumber.{NodeNumber}
-use Rattle.word.specs.declared.number.Owner.{Owner}
 use Rattle.word.specs.declared.number.Slot.{Slot}
 use Rattle.word.specs.declared.number.Slot.the-variants.{Outside, At as InSlot}
-use Rattle.word.specs.declared.number.ThreadNumber.{ThreadNumber}
 use Rattle.word.specs.declared.rules.ReadLocked.{ReadLocked}
 use Rattle.word.specs.declared.rules.ReadLocked.the-variants.{To as ReadTo, Refused as ReadRefused}
 use Rattle.word.specs.declared.rules.ReadUnlocked.{ReadUnlocked}
 use Rattle.word.specs.declared.rules.ReadUnlocked.the-variants.{To as UnlockTo, Contended, Refused as UnlockRefused}
 use Rattle.state.specs.Access.{accessOf}
 use Rattle.state.specs.Holding.{releasedWrite, downgradedTo}
-use Rattle.state.specs.Machine.{Sized, threadAt, nodeAt}
+use Rattle.state.specs.Machine.{threadAt, nodeAt}
 use Rattle.state.specs.Node.{withTail, withCompleted}
 use Rattle.state.specs.View.{at, agreesOf, stays, writes, completes, afterQueue}
-use Rattle.state.specs.declared.answer.Answer.{Answer}
 use Rattle.state.specs.declared.answer.Refusal.the-variants.{Damaged}
-use Rattle.state.specs.declared.answer.Reply.the-variants.{Accepted}
 use Rattle.state.specs.declared.machine.Machine.{Machine}
 use Rattle.state.specs.declared.place.Place.{Place}
 use Rattle.state.specs.declared.place.Place.the-variants as At
-use Rattle.state.specs.declared.place.Walk.{Walk}
 use Rattle.state.specs.declared.place.Walk.the-variants.{Queue, ReadUnlock, Downgrade}
 use Rattle.state.specs.declared.place.Who.{Who}
 use Rattle.state.specs.declared.place.Who.the-variants.{Waiter, Leaver}
@@ -56,13 +51,14 @@ use Rattle.lock.specs.Event.{eventOf}
 use Rattle.lock.specs.Laws.{slot-at}
 use Rattle.lock.specs.Step.{markedOf, markBy, markOf}
 use Rattle.promises.specs.Afterwards.{fails-17, step-made, by-rule, seen, touched, own-place}
-use Rattle.promises.specs.Goes.{overFor, triesOn, triedOn, contendsOn, contendedOn, markedOn, unlocksOn, unlockedOn}
+use Rattle.promises.specs.Goes.{overFor, triesOn, triedOn, contendsOn, contendedOn, markedOn, unlocksOn}
+use Rattle.promises.specs.Goes.{unlockedOn}
 use Rattle.promises.specs.Goes.{goesTo}
 use Rattle.promises.specs.Obeys.{All}
 use Rattle.promises.specs.Program.{placeOf, accessAt}
 use Rattle.promises.specs.RuleEnds.{park-ends}
 use Rattle.promises.specs.Statements.{GoesExactly}
-use Rattle.promises.specs.Tables.{bit, valueAt, writerOf}
+use Rattle.promises.specs.Tables.{bit, writerOf}
 use Rattle.promises.specs.Values.{valueIn, own-token, value-in}
 
 -- ── choices ──
@@ -71,7 +67,10 @@ abbrev To : Place → Change → Type 0
 To p c = c .thread .place ≡ p
 
 -- a choice of steps leads to a choice of places
-either : (b : Bool) (s s′ : Stepped) (p p′ : Place) → All (To p) s → All (To p′) s′ → All (To (pick b p p′)) (pick b s s′)
+either : (b : Bool) (s s′ : Stepped) (p p′ : Place)
+    → All (To p) s
+    → All (To p′) s′
+    → All (To (pick b p p′)) (pick b s s′)
 either true s s′ p p′ f g = f
 either false s s′ p p′ f g = g
 
@@ -144,8 +143,8 @@ module _ (v : View) where
   module _ (writer : NodeNumber → Bool) where
     abbrev Goes : Place → Type 0
     Goes p =
-        All (To (goesTo (v .me) p (v .fails) (valueIn (accessOf (v .me) p .location) (v .word) (v .node) (v .token)) writer))
-        (advanceOf v p)
+        let found = valueIn (accessOf (v .me) p .location) (v .word) (v .node) (v .token) in
+        All (To (goesTo (v .me) p (v .fails) found writer)) (advanceOf v p)
 
     register-goes : (w : Bool) (r : ℕ) (x : Word) → Goes (At.RegisterCas w r x)
     unfolding advanceOf accessOf goesTo
@@ -158,7 +157,9 @@ module _ (v : View) where
         (next-either (queued x) _ _ _ _ (next-either (queueLocked x) _ _ _ _ refl refl) refl)
         (contends-to w r (permittedOf w (v .word)))
 
-    found-goes : (who : Who) (x : Word) (tail : NodeNumber) → Marked (v .mark) (writer tail) → Goes (At.WalkHead (Queue who) x tail)
+    found-goes : (who : Who) (x : Word) (tail : NodeNumber)
+        → Marked (v .mark) (writer tail)
+        → Goes (At.WalkHead (Queue who) x tail)
     unfolding advanceOf accessOf goesTo
     found-goes who x tail e =
         let marked = markedBy v (withTail (v .node) tail) who x tail (v .mark) in
@@ -189,7 +190,10 @@ module _ (v : View) where
 
     -- whose writer mark local code reads, at a walk's end
     abbrev Reads : Place → Type 0
-    Reads p = (who : Who) (x : Word) (tail : NodeNumber) → p ≡ At.WalkHead (Queue who) x tail → Marked (v .mark) (writer tail)
+    Reads p =
+        (who : Who) (x : Word) (tail : NodeNumber)
+        → p ≡ At.WalkHead (Queue who) x tail
+        → Marked (v .mark) (writer tail)
 
     rule-goes : (p : Place) → Reads p → Goes p
     unfolding advanceOf accessOf goesTo
@@ -277,9 +281,9 @@ goes-exactly m code t a w z is-step e =
     let v = seen m code t a w e s in
     let found = valueIn l (m .word) (nodeAt m (s .k)) (threadAt m (t .0) .token) in
     let facts : s .c .thread .place ≡ goesTo t p (s .fails) found (writerOf m) =
-        by-rule m code t a w e s
-        (To (goesTo t p (s .fails) found (writerOf m)))
-        (rule-goes v (writerOf m) p (mark-read m p)) in
+    by-rule m code t a w e s
+    (To (goesTo t p (s .fails) found (writerOf m)))
+    (rule-goes v (writerOf m) p (mark-read m p)) in
     own-place m code t a w e s z ∙
     (facts ∙
     (ap (λ f. goesTo t p f found (writerOf m)) (fails-17 code (s .fails) (s .codes)) ∙

@@ -54,7 +54,7 @@ heldBy m t x = heldAfter x (threadAt m (t .0) .holding)
 -- ── a step ──
 
 module _ (m : Machine) (code : ℕ) (t : ThreadNumber) (a : Answer) (w : Owner)
-  (e : eventOf m code t .reply ≡ Accepted a w) (s : Stepping m code t (eventOf m code t)) (z : Sized m) where
+    (e : eventOf m code t .reply ≡ Accepted a w) (s : Stepping m code t (eventOf m code t)) (z : Sized m) where
   step-holding : Follows m t (eventOf m code t .machine)
   step-holding =
       own-holding m code t a w e s z ∙
@@ -65,10 +65,10 @@ module _ (m : Machine) (code : ℕ) (t : ThreadNumber) (a : Answer) (w : Owner)
       let is = effect-is m code t a w e s z in
       let same = answered m code t a w e s in (
         ap isYes (sym same) ∙
-        (obeyed m code t a w e s .yes ∙ sym (ap (λ (x : LockEffect). and (tries (placeOf m t)) (grants x)) is)),
+            (obeyed m code t a w e s .yes ∙ sym (ap (λ (x : LockEffect). and (tries (placeOf m t)) (grants x)) is)),
         unless-map (not (acquires (placeOf m t)))
-        (λ h. ap isDone (sym same) ∙ (h ∙ sym (ap grants is)))
-        (obeyed m code t a w e s .done),
+            (λ h. ap isDone (sym same) ∙ (h ∙ sym (ap grants is)))
+            (obeyed m code t a w e s .done),
       )
 
 -- ── a begin ──
@@ -92,8 +92,8 @@ begun-answers m code t a w e b =
 pub refused-has-no-effect : RefusedHasNoEffect
 refused-has-no-effect m t = (
   ap (λ (b : Bool). lockEffect (placeOf m t) (threadAt m (t .0) .holding) (not b) (standOf (placeOf m t)))
-  (eq-eqb (m .word .0) (m .word .0) refl) ∙
-  still-lock (placeOf m t) (threadAt m (t .0) .holding),
+      (eq-eqb (m .word .0) (m .word .0) refl) ∙
+      still-lock (placeOf m t) (threadAt m (t .0) .holding),
   still-queue t (placeOf m t),
 )
 

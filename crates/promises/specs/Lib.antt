@@ -29,3 +29,4 @@ pub mod Parts
 pub mod OnlyOne
 pub mod Theorems
 pub mod Changed
+pub mod Wrong

@@ -1,6 +1,7 @@
--- Proofs that an accepted event changes little: one-access, begin-shares-nothing, failure-writes-nothing, changes-little and
--- stays-sized. Each is read off what an accepted event is (Happened.antt), what its rule does (Obeys.antt) and what it left
--- (Afterwards.antt). In order: a step's nodes, its tokens, the rest; a begin; the theorems.
+-- Proofs that an accepted event changes little: one-access, begin-shares-nothing, failure-writes-nothing,
+-- changes-little and stays-sized. Each is read off what an accepted event is (Happened.antt), what its rule does
+-- (Obeys.antt) and what it left (Afterwards.antt). In order: a step's nodes, its tokens, the rest; a begin; the
+-- theorems.
 -- Not here: the statements (Statements.antt); what becomes of holdings (Grants.antt).
 -- Assumes nothing.
 use Prim.Native.Nat.{ℕ, _+_}
@@ -37,7 +38,8 @@ use Rattle.promises.specs.Places.{fills-own}
 use Rattle.promises.specs.Program.{placeOf, accessAt}
 use Rattle.promises.specs.RefusalProofs.{refused-unchanged}
 use Rattle.promises.specs.Shared.{Unless, keptBut, keptBy, fills, writesWord, isWeak, takesToken}
-use Rattle.promises.specs.Statements.{NodeAfter, same, accessed, filled, TokenAfter, kept, taken, set as token-set}
+use Rattle.promises.specs.Statements.{NodeAfter, same, accessed, filled, TokenAfter, kept, taken}
+use Rattle.promises.specs.Statements.{set as token-set}
 use Rattle.promises.specs.Statements.{AtAccess, OneAccess, NothingShared, BeginSharesNothing}
 use Rattle.promises.specs.Statements.{FailureWritesNothing, Little, ChangesLittle, StaysSized}
 
@@ -59,7 +61,7 @@ unless-weak : {S : Type 0} (k : Kind) → k ≡ WeakCompare → Unless (not (isW
 unless-weak {S} k e = rw e (λ x. x)
 
 module _ (m : Machine) (code : ℕ) (t : ThreadNumber) (a : Answer) (w : Owner)
-  (e : eventOf m code t .reply ≡ Accepted a w) (s : Stepping m code t (eventOf m code t)) where
+    (e : eventOf m code t .reply ≡ Accepted a w) (s : Stepping m code t (eventOf m code t)) where
   abbrev m′ : Machine
   m′ = next m code t a w e s
 
@@ -70,13 +72,14 @@ module _ (m : Machine) (code : ℕ) (t : ThreadNumber) (a : Answer) (w : Owner)
 
   node-changed : (j : ℕ) → j ≡ s .k → nodeAt m′ j ≡ s .c .node → NodeAfter m t m′ j
   node-changed j j-is n-is =
+      let at = touched m code t a w e s in
       ⊎-elim
-      (λ q. accessed (touched m code t a w e s ∙ ap (λ (n : ℕ). n + 1) (sym j-is))
+      (λ q. accessed (at ∙ ap (λ (n : ℕ). n + 1) (sym j-is))
       (n-is ∙
       (q ∙
       sym (ap (λ (x : Node). keptBut (accessAt m t) x (nodeAt m j)) n-is ∙
       ap (λ (n : ℕ). keptBut (accessAt m t) (s .c .node) (nodeAt m n)) j-is))))
-      (λ q. filled (omega (arith, touched m code t a w e s, ap (λ (x : NodeNumber). x .0) (fills-own t (placeOf m t) (q .0))))
+      (λ q. filled (omega (arith, at, ap (λ (x : NodeNumber). x .0) (fills-own t (placeOf m t) (q .0))))
       (q .0)
       (q .1 .0)
       (n-is ∙ q .1 .1))
@@ -170,7 +173,9 @@ module _ (m : Machine) (code : ℕ) (t : ThreadNumber) (a : Answer) (w : Owner)
     failed-word =
         next-word m code t a w e s ∙ unless-weak (accessAt m t .kind) weak (obeyed m code t a w e s .failed) fails
 
-    failed-node : (j : ℕ) → NodeAfter m t m′ j → (nodeAt m′ j ≡ nodeAt m j) ⊎ ((j ≡ t .0) × (fills (placeOf m t) ≡ true))
+    failed-node : (j : ℕ)
+        → NodeAfter m t m′ j
+        → (nodeAt m′ j ≡ nodeAt m j) ⊎ ((j ≡ t .0) × (fills (placeOf m t) ≡ true))
     failed-node j (same h) = inl h
     failed-node j (accessed i h) =
         inl (h ∙ weak-keeps (accessAt m t .kind) (accessAt m t .location) (nodeAt m′ j) (nodeAt m j) weak)

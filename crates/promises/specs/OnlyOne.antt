@@ -1,7 +1,8 @@
--- Proof of only-one: two programs that satisfy the statements are equal on every machine whose arrays have their length. Each
--- part of the outcome is read off a statement that both satisfy. In order: word, place and holding; a begin; a step's reply,
--- its nodes, its tokens; any event.
--- Not here: the statements (Statements.antt); that `eventOf` satisfies them (Theorems.antt); equality by parts (Parts.antt).
+-- Proof of only-one: two programs that satisfy the statements are equal on every machine whose arrays have their
+-- length. Each part of the outcome is read off a statement that both satisfy. In order: word, place and holding; a
+-- begin; a step's reply, its nodes, its tokens; any event.
+-- Not here: the statements (Statements.antt); that `eventOf` satisfies them (Theorems.antt); equality by parts
+-- (Parts.antt).
 -- Assumes nothing.
 use Prim.Native.Nat.{ℕ, _+_}
 use mathlib.Core.Bool.{Bool, true, false, not}
@@ -29,11 +30,11 @@ use Rattle.state.specs.declared.machine.Machine.{Machine}
 use Rattle.state.specs.declared.place.Place.{Place}
 use Rattle.lock.specs.Begin.{isIdle}
 use Rattle.lock.specs.Effect.{effectOf, lockEffect, standOf, heldAfter, grants}
-use Rattle.promises.specs.Afterwards.{never}
 use Rattle.promises.specs.Goes.{nodeFor}
 use Rattle.promises.specs.Obeys.{kept-same}
 use Rattle.promises.specs.Parts.{same?, owner-is, nobody-not, is-thread, answer-is, thread-is, machine-is}
 use Rattle.promises.specs.Parts.{Sort, sorts, kept-is}
+use Rattle.promises.specs.Places.{never}
 use Rattle.promises.specs.Program.{Program, placeOf, accessAt}
 use Rattle.promises.specs.RefusalFirst.{NoneGiven, past, none-exactly}
 use Rattle.promises.specs.RefusalProofs.{reply-number}
@@ -86,7 +87,7 @@ module _ (p q : Program) (rp : Right p) (rq : Right q) (m : Machine) (code : ℕ
 
   -- both accept: what is the same of an accepted event
   module _ (a a′ : Answer) (w w′ : Owner)
-    (e : p m code t .reply ≡ Accepted a w) (f : q m code t .reply ≡ Accepted a′ w′) where
+      (e : p m code t .reply ≡ Accepted a w) (f : q m code t .reply ≡ Accepted a′ w′) where
     -- the outcome, by the answer, the thread woken, the word, the place, the tokens and the nodes
     outcome-same : a ≡ a′
         → w ≡ w′
@@ -95,7 +96,8 @@ module _ (p q : Program) (rp : Right p) (rq : Right q) (m : Machine) (code : ℕ
         → ((u : ℕ) → threadAt mp u .token ≡ threadAt mq u .token)
         → ((j : ℕ) → nodeAt mp j ≡ nodeAt mq j)
         → p m code t ≡ q m code t
-    outcome-same answers wakes word-same place-same tokens nodes = λ i. record { machine = machines i; reply = replies i }
+    outcome-same answers wakes word-same place-same tokens nodes =
+        λ i. record { machine = machines i; reply = replies i }
       where
         replies : p m code t .reply ≡ q m code t .reply
         replies = e ∙ (ap (λ x. Accepted x w) answers ∙ (ap (λ x. Accepted a′ x) wakes ∙ sym f))
@@ -189,7 +191,7 @@ module _ (p q : Program) (rp : Right p) (rq : Right q) (m : Machine) (code : ℕ
               let op : Owned (x .0) w mp = rp .woken .completing m code t a w (x .0) z e (x .1) in
               let oq : Owned (x .0) w′ mq = rq .woken .completing m code t a′ w′ (x .0) z f (x .1) in
               let owner : op .owner .0 + 1 ≡ oq .owner .0 + 1 =
-                  ap (λ (y : NodeNumber). y .0) (op .owns ∙ sym (oq .owns)) in
+              ap (λ (y : NodeNumber). y .0) (op .owns ∙ sym (oq .owns)) in
               op .reported ∙ (ap (λ (y : ℕ). Somebody (thread y)) (omega (arith, owner)) ∙ sym (oq .reported))
           by (inr k) = rp .woken .otherwise m code t a w e k ∙ sym (rq .woken .otherwise m code t a′ w′ f k)
 
@@ -206,7 +208,10 @@ module _ (p q : Program) (rp : Right p) (rq : Right q) (m : Machine) (code : ℕ
         kept-but nf x (filled i k wr h) = never (sym nf ∙ k)
 
         -- one that is not accessed, either
-        untouched : fills (placeOf m t) ≡ false → touchedOf (accessAt m t) t .0 ≢ j + 1 → (x : Machine) → NodeAfter m t x j
+        untouched : fills (placeOf m t) ≡ false
+            → touchedOf (accessAt m t) t .0 ≢ j + 1
+            → (x : Machine)
+            → NodeAfter m t x j
             → nodeAt x j ≡ nodeAt m j
         untouched nf ne x (same h) = h
         untouched nf ne x (accessed i h) = absurd (ne i)
@@ -232,7 +237,8 @@ module _ (p q : Program) (rp : Right p) (rq : Right q) (m : Machine) (code : ℕ
             at-word i (inl k) =
                 subst (λ u. nodeAt mp u ≡ nodeAt mq u) (sym k)
                 (rp .fills m code t a w z s e (ap inWord i) ∙
-                (ap (λ x. nodeFor t x (nodeAt m (t .0))) place-same ∙ sym (rq .fills m code t a′ w′ z s f (ap inWord i))))
+                (ap (λ x. nodeFor t x (nodeAt m (t .0))) place-same ∙
+                sym (rq .fills m code t a′ w′ z s f (ap inWord i))))
             at-word i (inr ne) = others i ne mp np ∙ sym (others i ne mq nq)
 
             elsewhere : fills (placeOf m t) ≡ false
@@ -334,12 +340,13 @@ module _ (p q : Program) (rp : Right p) (rq : Right q) (m : Machine) (code : ℕ
           let same : p m code t .reply ≡ Refused r = reply-number (p m code t .reply) r (numbers ∙ ap numberGiven f) in
           let bad : _≡_ {A = ℕ} 0 1 = cc in absurd (omega arith)
       by (Refused r) (Accepted a w) e f =
-          let same : q m code t .reply ≡ Refused r = reply-number (q m code t .reply) r (sym numbers ∙ ap numberGiven e) in
+          let same : q m code t .reply ≡ Refused r =
+          reply-number (q m code t .reply) r (sym numbers ∙ ap numberGiven e) in
           let bad : _≡_ {A = ℕ} 0 1 = cc in absurd (omega arith)
       by (Refused r) (Refused r′) e f =
           let machines : mp ≡ mq = rp .unchanged m code t r e ∙ sym (rq .unchanged m code t r′ f) in
           let replies : p m code t .reply ≡ q m code t .reply =
-              e ∙ sym (reply-number (q m code t .reply) r (sym numbers ∙ ap numberGiven e)) in
+          e ∙ sym (reply-number (q m code t .reply) r (sym numbers ∙ ap numberGiven e)) in
           λ k. record { machine = machines k; reply = replies k }
 
 pub only-one : OnlyOne

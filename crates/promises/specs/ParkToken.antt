@@ -1,5 +1,5 @@
--- Proof of park-takes-the-token: what park leaves of the thread's own token. In order: park is the one place that takes it;
--- what its rule gives; the token after.
+-- Proof of park-takes-the-token: what park leaves of the thread's own token. In order: park is the one place that takes
+-- it; what its rule gives; the token after.
 -- Not here: the statement (Statements.antt); the tokens of other threads (OneAccess.antt, WokenOwner.antt).
 -- Assumes nothing.
 use Prim.Native.Nat.{ℕ}
@@ -24,9 +24,9 @@ use Rattle.state.specs.declared.view.View.{View}
 use Rattle.lock.specs.Advance.{advanceOf}
 use Rattle.lock.specs.Event.{eventOf}
 use Rattle.lock.specs.Landed.{wokenOf}
-use Rattle.promises.specs.Afterwards.{never, fails-17, step-made, by-rule, seen, laid, landed, own-thread, woke}
-use Rattle.promises.specs.Happened.{Stepping}
+use Rattle.promises.specs.Afterwards.{fails-17, step-made, by-rule, seen, laid, landed, own-thread, woke}
 use Rattle.promises.specs.Obeys.{All}
+use Rattle.promises.specs.Places.{never}
 use Rattle.promises.specs.Program.{placeOf, accessAt}
 use Rattle.promises.specs.Refusals.{steps}
 use Rattle.promises.specs.RuleEnds.{park-ends}
@@ -44,7 +44,9 @@ unfolding advanceOf
 parked v writer = park-ends v _ writer (λ f. (rw f, refl)) (λ f. (rw f, refl))
 
 -- a place that takes the token is park
-park-only : (t : ThreadNumber) (p : Place) → takesToken (accessOf t p .kind) ≡ true → (writer : Bool) × (p ≡ At.Park writer)
+park-only : (t : ThreadNumber) (p : Place)
+    → takesToken (accessOf t p .kind) ≡ true
+    → (writer : Bool) × (p ≡ At.Park writer)
 unfolding accessOf
 park-only t At.Idle e = never e
 park-only t (At.TryReadLoad _) e = never e
@@ -88,8 +90,8 @@ token-after m code t a w z parks e is-step =
     let v = seen m code t a w e s in
     let only : (x : Bool) × (placeOf m t ≡ At.Park x) = park-only t (placeOf m t) (ap takesToken parks) in
     let facts : Parked v (s .c) =
-        by-rule m code t a w e s (Parked v)
-        (subst (λ p. All (Parked v) (advanceOf v p)) (sym (only .1)) (parked v (only .0))) in
+    by-rule m code t a w e s (Parked v)
+    (subst (λ p. All (Parked v) (advanceOf v p)) (sym (only .1)) (parked v (only .0))) in
     let nobody : w ≡ Nobody = sym (woke m code t a w e s) ∙ facts .1 in
     ap (λ (x : Machine). threadAt x (t .0) .token) (landed m code t a w e s) ∙
     (ap (λ (o : Owner). threadAt (wokenOf (laid m code t a w e s) o) (t .0) .token) nobody ∙

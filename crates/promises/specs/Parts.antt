@@ -1,8 +1,8 @@
--- What is equal because its parts are: answers, owners, threads, machines, and a node accessed; and what sort of access each
--- place makes. In order: numbers and owners; answers; records and lists; sorts of access; a node accessed.
--- For the proof that only one program satisfies the statements (OnlyOne.antt). Not here: refusals (RefusalProofs.antt).
+-- What is equal because its parts are: answers, owners, threads, machines, and a node accessed; and what sort of access
+-- each place makes. In order: numbers and owners; answers; records and lists; sorts of access; a node accessed. For the
+-- proof that only one program satisfies the statements (OnlyOne.antt). Not here: refusals (RefusalProofs.antt).
 -- Assumes nothing.
-use Prim.Native.Nat.{ℕ, _+_, _-_}
+use Prim.Native.Nat.{ℕ, _+_}
 use mathlib.Core.Bool.{Bool, true, false}
 use mathlib.Core.Logic.{_≢_, _⊎_, inl, inr}
 use mathlib.Core.Path.{_≡_, refl, sym, ap, subst, _∙_}
@@ -23,7 +23,8 @@ use Rattle.state.specs.declared.access.Access.{Access}
 use Rattle.state.specs.declared.access.Kind.{Kind}
 use Rattle.state.specs.declared.access.Kind.the-variants as Kinds
 use Rattle.state.specs.declared.access.Location.{Location}
-use Rattle.state.specs.declared.access.Location.the-variants.{Nowhere, Word as TheWord, Next, Prev, Tail, Completed, Token}
+use Rattle.state.specs.declared.access.Location.the-variants.{Nowhere, Word as TheWord, Next, Prev, Tail, Completed}
+use Rattle.state.specs.declared.access.Location.the-variants.{Token}
 use Rattle.state.specs.declared.answer.Answer.{Answer}
 use Rattle.state.specs.declared.answer.Answer.the-variants.{Begun, Went, Done, Yes, No}
 use Rattle.state.specs.declared.machine.Machine.{Machine}
@@ -31,7 +32,7 @@ use Rattle.state.specs.declared.machine.Thread.{Thread}
 use Rattle.state.specs.declared.node.Node.{Node}
 use Rattle.state.specs.declared.place.Place.{Place}
 use Rattle.state.specs.declared.place.Place.the-variants as At
-use Rattle.promises.specs.Afterwards.{never}
+use Rattle.promises.specs.Places.{never}
 use Rattle.promises.specs.Shared.{writesWord, takesToken, keptBy, fieldAt, fills, isYes, isDone, isNo, isWent}
 use Rattle.promises.specs.Tables.{bit, valueAt}
 use Rattle.promises.specs.Values.{bit-same}
@@ -97,15 +98,15 @@ pub machine-is : (x y : Machine)
     → x ≡ y
 machine-is x y sx sy c w n h =
     let nodes : x .nodes ≡ y .nodes =
-        ext-getD blankNode (x .nodes) (y .nodes) (sx .nodes ∙ sym (sy .nodes)) (λ j _. n j) in
+    ext-getD blankNode (x .nodes) (y .nodes) (sx .nodes ∙ sym (sy .nodes)) (λ j _. n j) in
     let threads : x .threads ≡ y .threads =
-        ext-getD blankThread (x .threads) (y .threads) (sx .threads ∙ sym (sy .threads)) (λ u _. h u) in
+    ext-getD blankThread (x .threads) (y .threads) (sx .threads ∙ sym (sy .threads)) (λ u _. h u) in
     λ i. record { count = c i; word = w i; nodes = nodes i; threads = threads i }
 
 -- ── sorts of access ──
 
--- an access lies in the word, or writes no word and is no place to fill a node; it is park's, or takes no token; it completes
--- a node, or is of another kind
+-- an access lies in the word, or writes no word and is no place to fill a node; it is park's, or takes no token; it
+-- completes a node, or is of another kind
 pub record Sort (t : ThreadNumber) (a : Access) (fill : Bool) : Type 0 where
   pub word : (a .location ≡ TheWord) ⊎ ((writesWord (a .kind) ≡ false) × (fill ≡ false))
   pub token : (a .location ≡ Token t) ⊎ (takesToken (a .kind) ≡ false)
@@ -163,7 +164,8 @@ sorts t (At.SplitCas _ _ _) = at-word t _ _ refl refl
 sorts t (At.SplitRestore _ _ _ _) = elsewhere t _ _ refl refl refl
 sorts t (At.TakeCas _ _ _) = at-word t _ _ refl refl
 sorts t (At.WakePrev _ _) = elsewhere t _ _ refl refl refl
-sorts t (At.WakeStore _ current _) = record { word = inr (refl, refl); token = inr refl; completes = inl (current, refl) }
+sorts t (At.WakeStore _ current _) =
+    record { word = inr (refl, refl); token = inr refl; completes = inl (current, refl) }
 sorts t At.ReadUnlockLoad = at-word t _ _ refl refl
 sorts t (At.ReadUnlockCas _) = at-word t _ _ refl refl
 sorts t (At.Subtract _ _) = elsewhere t _ _ refl refl refl
@@ -184,7 +186,9 @@ fieldValue (Tail k) n = n .tail .0
 fieldValue (Completed k) n = bit (n .completed)
 fieldValue (Token u) n = 0
 
-field-is : (l : Location) (a b before : Node) → fieldValue l a ≡ fieldValue l b → fieldAt l a before ≡ fieldAt l b before
+field-is : (l : Location) (a b before : Node)
+    → fieldValue l a ≡ fieldValue l b
+    → fieldAt l a before ≡ fieldAt l b before
 field-is Nowhere a b before e = refl
 field-is TheWord a b before e = refl
 field-is (Next k) a b before e = ap (λ (x : ℕ). withNext before (record { 0 = x })) e

@@ -13,7 +13,8 @@ use Rattle.lock.specs.Effect.{Stand, lockEffect, keeps}
 use Rattle.promises.specs.Shared.{fills, writesWord}
 use Rattle.promises.specs.Tables.{subtracting}
 
-never : {A : Type 0} → false ≡ true → A
+-- what is false is not true
+pub never : {A : Type 0} → false ≡ true → A
 never e = absurd (subst T (sym e) tt)
 
 -- a place that may fill the own node accesses the word

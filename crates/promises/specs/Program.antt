@@ -1,5 +1,6 @@
--- A program is what makes an outcome of a machine, a code and a thread, as `eventOf` does. The statements of this crate are
--- over any program, so that a wrong one is a definition like any other; the theorems are their instances at `eventOf`.
+-- A program is what makes an outcome of a machine, a code and a thread, as `eventOf` does. The statements of this crate
+-- are over any program, so that a wrong one is a definition like any other; the theorems are their instances at
+-- `eventOf`.
 -- Here: the program, where a thread stands, the access that it makes there. Not here: the statements (Statements.antt).
 -- Assumes nothing.
 use Prim.Native.Nat.{ℕ}

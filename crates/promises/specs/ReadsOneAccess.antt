@@ -1,10 +1,10 @@
--- Proof of reads-one-access: two machines alike at a thread's access give its event the same. In order: what is read in the
--- two machines; a step; a begin; the event.
+-- Proof of reads-one-access: two machines alike at a thread's access give its event the same. In order: what is read in
+-- the two machines; a step; a begin; the event.
 -- Not here: the statement (Statements.antt); that the rules do the same (Twins.antt).
 -- Assumes nothing.
 use Prim.Native.Nat.{ℕ, _+_, _≤_, _<_}
 use mathlib.Core.Bool.{Bool, true, false}
-use mathlib.Core.Logic.{inl}
+use mathlib.Core.Logic.{_⊎_, inl}
 use mathlib.Core.Path.{_≡_, refl, sym, ap, subst, _∙_}
 use native.Mathlib.Omega.{arith}
 use borrow.Author.Tests.{leb-false}
@@ -19,7 +19,8 @@ use Rattle.word.specs.declared.number.ThreadNumber.{ThreadNumber}
 use Rattle.state.specs.Access.{accessOf, touchedAt, touchedOf}
 use Rattle.state.specs.Machine.{Sized, threadLimit, goodCount, threadAt, nodeAt, blankThread, refusedOf}
 use Rattle.state.specs.declared.access.Location.{Location}
-use Rattle.state.specs.declared.access.Location.the-variants.{Nowhere, Word as TheWord, Next, Prev, Tail, Completed, Token}
+use Rattle.state.specs.declared.access.Location.the-variants.{Nowhere, Word as TheWord, Next, Prev, Tail, Completed}
+use Rattle.state.specs.declared.access.Location.the-variants.{Token}
 use Rattle.state.specs.declared.answer.Refusal.{Refusal}
 use Rattle.state.specs.declared.answer.Refusal.the-variants.{UnknownCode, NoThread, InsideCall, WrongHolding, Damaged}
 use Rattle.state.specs.declared.answer.Reply.the-variants.{Accepted}
@@ -28,9 +29,8 @@ use Rattle.state.specs.declared.answer.Verdict.the-variants.{Fine, Refused as H
 use Rattle.state.specs.declared.machine.Machine.{Machine}
 use Rattle.state.specs.declared.machine.Outcome.{Outcome}
 use Rattle.state.specs.declared.machine.Thread.{Thread}
-use Rattle.state.specs.declared.node.Node.{Node}
 use Rattle.state.specs.declared.place.Place.{Place}
-use Rattle.state.specs.declared.place.Place.the-variants as At
+use Rattle.state.specs.declared.view.Change.{Change}
 use Rattle.state.specs.declared.view.Mark.the-variants.{Reader, Writer}
 use Rattle.state.specs.declared.view.Stepped.{Stepped}
 use Rattle.state.specs.declared.view.Stepped.the-variants.{To, Refused}
@@ -45,32 +45,15 @@ use Rattle.lock.specs.Still.{idle-is}
 use Rattle.lock.specs.declared.code.Call.{Call}
 use Rattle.lock.specs.declared.code.Code.{Code}
 use Rattle.lock.specs.declared.code.Code.the-variants.{Begin, Step, Fail, Unknown}
-use Rattle.promises.specs.Afterwards.{never}
+use Rattle.promises.specs.Places.{never}
 use Rattle.promises.specs.Program.{placeOf}
 use Rattle.promises.specs.Statements.{Alike, DoSame, ReadsOneAccess}
-use Rattle.promises.specs.Tables.{bit, valueAt}
-use Rattle.promises.specs.Twins.{FilledAlike, filled-if, Told, Twin, both-if, viewed, Marks, twins}
-use Rattle.promises.specs.Values.{Quiet, TokenOwn, SameToken, own-token, value-in}
+use Rattle.promises.specs.Tables.{bit, valueAt, inWord}
+use Rattle.promises.specs.Twins.{FilledAlike, Told, Twin, both-if, viewed, Marks, twins}
+use Rattle.promises.specs.Values.{in-word, own-touched, Quiet, TokenOwn, SameToken, own-token, value-in}
 use Rattle.promises.specs.Values.{storing, stored-node, stored-place, stored-holding, stored-value}
 
 -- ── what is read in the two machines ──
-
--- the own node is the one touched, where the access lies in the word
-filled-own : (t : ThreadNumber) (k : ℕ) (l : Location) (a a′ b b′ : ℕ → Node) (x x′ : Node)
-    → touchedAt l t .0 ≡ k + 1
-    → b k ≡ x
-    → b′ k ≡ x′
-    → FilledAlike l (a k) (a′ k) x x′
-    → FilledAlike l (a (t .0)) (a′ (t .0)) (b (t .0)) (b′ (t .0))
-filled-own t k Nowhere a a′ b b′ x x′ e f f′ h = tt
-filled-own t k TheWord a a′ b b′ x x′ e f f′ h =
-    let there : FilledAlike TheWord (a k) (a′ k) (b k) (b′ k) = rw (f, f′) h in
-    subst (λ j. FilledAlike TheWord (a j) (a′ j) (b j) (b′ j)) (omega (arith, e)) there
-filled-own t k (Next n) a a′ b b′ x x′ e f f′ h = tt
-filled-own t k (Prev n) a a′ b b′ x x′ e f f′ h = tt
-filled-own t k (Tail n) a a′ b b′ x x′ e f f′ h = tt
-filled-own t k (Completed n) a a′ b b′ x x′ e f f′ h = tt
-filled-own t k (Token u) a a′ b b′ x x′ e f f′ h = tt
 
 same-token : (l : Location) (t : ThreadNumber) (m m′ : Machine)
     → TokenOwn l t
@@ -90,7 +73,7 @@ unfolding accessOf
 idle-nowhere t p e = ap (λ q. accessOf t q .location) (idle-is p e)
 
 module _ (t : ThreadNumber) (m m′ : Machine) (z : Sized m) (z′ : Sized m′) (alike : Alike t m m′)
-  (p : Place) (here : placeOf m t ≡ p) where
+    (p : Place) (here : placeOf m t ≡ p) where
   abbrev l : Location
   l = accessOf t p .location
 
@@ -116,6 +99,21 @@ module _ (t : ThreadNumber) (m m′ : Machine) (z : Sized m) (z′ : Sized m′)
 
   module _ (own-low : t .0 < threadLimit) where
     module _ (k : ℕ) (low : k < threadLimit) (at : touchedAt (accessOf t p .location) t .0 ≡ k + 1) where
+      -- node j kept in both machines, or the same in both
+      abbrev NodeAlike : Change → Change → ℕ → Type 0
+      NodeAlike c c′ j =
+          ((nodeAt (storing m t k c) j ≡ nodeAt m j) × (nodeAt (storing m′ t k c′) j ≡ nodeAt m′ j))
+          ⊎ (nodeAt (storing m t k c) j ≡ nodeAt (storing m′ t k c′) j)
+
+      own-same : (c c′ : Change)
+          → FilledAlike (accessOf t p .location) (nodeAt m k) (nodeAt m′ k) (c .node) (c′ .node)
+          → inWord (accessOf t p .location) ≡ true
+          → NodeAlike c c′ (t .0)
+      own-same c c′ filled word =
+          let touched : NodeAlike c c′ k =
+          rw (stored-node m t z k low own-low c, stored-node m′ t z′ k low own-low c′) (in-word l _ word filled) in
+          subst (NodeAlike c c′) (omega (arith, at, own-touched l t word)) touched
+
       landed-same : (x x′ : Stepped)
           → Twin (accessOf t p .location) (nodeAt m k) (nodeAt m′ k) x x′
           → Same (landedOf m (t .0) k x) (landedOf m′ (t .0) k x′)
@@ -130,14 +128,7 @@ module _ (t : ThreadNumber) (m m′ : Machine) (z : Sized m) (z′ : Sized m′)
                 (ap (λ (y : Told). y .holding) told ∙ sym (stored-holding m′ t z′ k low own-low c′));
             value = stored-value m t z k low own-low c l at own quiet ∙
                 (ap (λ (y : Told). y .value) told ∙ sym (stored-value m′ t z′ k low own-low c′ l at own quiet′));
-            own = filled-if l _ _ _ _
-                (filled-own t k l (nodeAt m) (nodeAt m′) (nodeAt (storing m t k c)) (nodeAt (storing m′ t k c′))
-                (c .node)
-                (c′ .node)
-                at
-                (stored-node m t z k low own-low c)
-                (stored-node m′ t z′ k low own-low c′)
-                filled);
+            own = own-same c c′ filled;
           }
       landed-same (To c) (Refused r) h = absurd h
       landed-same (Refused r) (To c) h = absurd h
@@ -154,7 +145,9 @@ module _ (t : ThreadNumber) (m m′ : Machine) (z : Sized m) (z′ : Sized m′)
         by (InSlot j) e =
             let f : tail .0 ≡ j + 1 = slot-at tail (m′ .count) j e .0 in
             ap (λ y. pick y Writer Reader)
-            (subst (λ i. nodeAt m i .writer ≡ nodeAt m′ i .writer) (omega (arith, f)) (alike .mark who x tail (here ∙ is) r))
+            (subst (λ i. nodeAt m i .writer ≡ nodeAt m′ i .writer)
+            (omega (arith, f))
+            (alike .mark who x tail (here ∙ is) r))
 
     advanced-same : (fails : Bool) (k : ℕ)
         → touchedAt (accessOf t p .location) t .0 ≡ k + 1
@@ -162,17 +155,18 @@ module _ (t : ThreadNumber) (m m′ : Machine) (z : Sized m) (z′ : Sized m′)
         (advanceOf (viewAt m t k fails p) p)
         (advanceOf (viewAt m′ t k fails p) p)
     advanced-same fails k at =
+        let h = threadAt m (t .0) .holding in
         let mark = markOf m (markedOf p) in
         let mark′ = markOf m′ (markedOf p) in
         let token = threadAt m (t .0) .token in
         let token′ = threadAt m′ (t .0) .token in
         let before = value-in m t l k at (own-token t p .own) in
         let before′ = value-in m′ t l k at (own-token t p .own) in
-        subst (λ h. Twin l (nodeAt m k) (nodeAt m′ k)
+        subst (λ x. Twin l (nodeAt m k) (nodeAt m′ k)
         (advanceOf (viewAt m t k fails p) p)
-        (advanceOf (viewed t (m′ .word) (nodeAt m′ k) mark′ token′ h fails) p))
+        (advanceOf (viewed t (m′ .word) (nodeAt m′ k) mark′ token′ x fails) p))
         (alike .holding)
-        (twins t fails (threadAt m (t .0) .holding) (nodeAt m k) (nodeAt m′ k) mark mark′ token token′ (m .word) (m′ .word) p
+        (twins t fails h (nodeAt m k) (nodeAt m′ k) mark mark′ token token′ (m .word) (m′ .word) p
         (sym before ∙ (value-same ∙ before′))
         marks-same)
 
@@ -182,7 +176,7 @@ module _ (t : ThreadNumber) (m m′ : Machine) (z : Sized m) (z′ : Sized m′)
     touching-same few fails Outside e = refused-same Damaged
     touching-same few fails (InSlot k) e =
         let f : (touchedOf (accessOf t p) t .0 ≡ k + 1) × (k < m .count) =
-            slot-at (touchedOf (accessOf t p) t) (m .count) k e in
+        slot-at (touchedOf (accessOf t p) t) (m .count) k e in
         landed-same k (omega (arith, f .1, few)) (f .0)
         (advanceOf (viewAt m t k fails p) p)
         (advanceOf (viewAt m′ t k fails p) p)
@@ -199,10 +193,11 @@ module _ (t : ThreadNumber) (m m′ : Machine) (z : Sized m) (z′ : Sized m′)
         by (Halted r) = refused-same r
         by Fine =
             let touched = touchedOf (accessOf t p) t in
+            let slot = slotOf touched (m .count) in
             subst
-            (λ y. Same (touchingBy m t fails p (slotOf touched (m .count))) (touchingBy m′ t fails p (slotOf touched y)))
+            (λ y. Same (touchingBy m t fails p slot) (touchingBy m′ t fails p (slotOf touched y)))
             (alike .count)
-            (touching-same few fails (slotOf touched (m .count)) refl)
+            (touching-same few fails slot refl)
 
     stepped-same : m .count ≤ threadLimit → (fails : Bool) → Same (stepOf m t fails) (stepOf m′ t fails)
     unfolding stepOf
@@ -243,7 +238,9 @@ module _ (t : ThreadNumber) (m m′ : Machine) (z : Sized m) (z′ : Sized m′)
   -- a thread below the count in both, or in neither
   below-same : m .count ≤ threadLimit → (x x′ : Outcome)
       → (t .0 < threadLimit → Same x x′)
-      → Same (pick (leb (m .count) (t .0)) (refusedOf m NoThread) x) (pick (leb (m′ .count) (t .0)) (refusedOf m′ NoThread) x′)
+      → Same
+      (pick (leb (m .count) (t .0)) (refusedOf m NoThread) x)
+      (pick (leb (m′ .count) (t .0)) (refusedOf m′ NoThread) x′)
   below-same few x x′ f =
       both-if Same (leb (m .count) (t .0)) (leb (m′ .count) (t .0)) (ap (λ j. leb j (t .0)) (alike .count))
       (λ _. refused-same NoThread)

@@ -1,7 +1,7 @@
--- Every rule's ends, once: what holds of each way in which a place's rule can end holds of the rule. A promise about steps is
--- then a table of places, not a case for each test. In document 01's order: attempts; contending and waiting; find tail,
--- unlock queue and complete all; unlocks and downgrade.
--- A way to end that is a compare's success comes with what the compare found.
+-- Every rule's ends, once: what holds of each way in which a place's rule can end holds of the rule. A promise about
+-- steps is then a table of places, not a case for each test. In document 01's order: attempts; contending and waiting;
+-- find tail, unlock queue and complete all; unlocks and downgrade. A way to end that is a compare's success comes with
+-- what the compare found.
 -- Not here: the rules (acquire, walk, unlock, release); what they obey (Obeys.antt).
 -- Assumes nothing.
 use Prim.Native.Nat.{ℕ, _+_, _-_}
@@ -37,7 +37,8 @@ use Rattle.state.specs.declared.view.Next.{Next}
 use Rattle.state.specs.declared.view.View.{View}
 use Rattle.walk.specs.CompleteAll.{wakeStoreOf}
 use Rattle.walk.specs.FindTail.{walkTailOf}
-use Rattle.acquire.specs.LockContended.{permittedOf, grantedOf, fillOf, contendBy, contendJudged, contendCasBy, contendCasOf}
+use Rattle.acquire.specs.LockContended.{permittedOf, grantedOf, fillOf, contendBy, contendJudged, contendCasBy}
+use Rattle.acquire.specs.LockContended.{contendCasOf}
 use Rattle.acquire.specs.LockContended.{registerCasOf, spinCount}
 use Rattle.acquire.specs.TryRead.{tryReadRefused, tryReadBy, tryReadJudged, tryReadCasBy, tryReadCasOf}
 use Rattle.acquire.specs.TryWrite.{tryWriteRefused, tryWriteOrOf}
@@ -78,7 +79,8 @@ module _ (v : View) (P : Change → Type 0) where
       by ReadRefused = refused
 
   pub try-read-cas-ends : (blocking : Bool) (seen : Word)
-      → ((to : Word) → readLockOf seen ≡ ReadTo to → Agreed seen → Wrote to (grantedRead (v .holding)) (granted blocking))
+      → ((to : Word) → readLockOf seen ≡ ReadTo to → Agreed seen
+      → Wrote to (grantedRead (v .holding)) (granted blocking))
       → All P (tryReadJudged v blocking (v .word))
       → All P (tryReadCasOf v blocking seen)
   try-read-cas-ends blocking seen grants again =

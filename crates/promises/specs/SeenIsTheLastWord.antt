@@ -1,20 +1,15 @@
--- Proof of seen-is-the-last-word: which word the next place goes by. In order: what each rule carries on, place by place; the
--- machine.
+-- Proof of seen-is-the-last-word: which word the next place goes by. In order: what each rule carries on, place by
+-- place; the machine.
 -- Not here: the statement (Statements.antt); the table of the words that places go by (Tables.antt).
 -- Assumes nothing.
 use Prim.Native.Nat.{ℕ}
-use mathlib.Core.Bool.{Bool, true, false}
+use mathlib.Core.Bool.{true, false}
 use mathlib.Core.Path.{_≡_, refl, sym, ap, _∙_}
 use Rattle.word.specs.Base.{pick}
 use Rattle.word.specs.declared.flags.Word.{Word}
-use Rattle.word.specs.declared.number.Owner.{Owner}
 use Rattle.word.specs.declared.number.ThreadNumber.{ThreadNumber}
 use Rattle.state.specs.Access.{accessOf}
-use Rattle.state.specs.Machine.{Sized}
 use Rattle.state.specs.View.{agreesOf}
-use Rattle.state.specs.declared.answer.Answer.{Answer}
-use Rattle.state.specs.declared.answer.Reply.the-variants.{Accepted}
-use Rattle.state.specs.declared.machine.Machine.{Machine}
 use Rattle.state.specs.declared.place.Place.{Place}
 use Rattle.state.specs.declared.place.Place.the-variants as At
 use Rattle.state.specs.declared.place.Walk.the-variants.{Queue, ReadUnlock, Downgrade}
@@ -26,10 +21,12 @@ use Rattle.lock.specs.Effect.{QueueEffect, queueEffect, effectOf, standOf}
 use Rattle.lock.specs.Event.{eventOf}
 use Rattle.promises.specs.Afterwards.{step-made, by-rule, seen, next-word, own-place}
 use Rattle.promises.specs.Obeys.{All, agrees-word}
-use Rattle.promises.specs.Program.{placeOf, accessAt}
-use Rattle.promises.specs.RuleEnds.{try-read-ends, try-read-cas-ends, try-write-ends, contend-ends, contend-cas-ends}
+use Rattle.promises.specs.Program.{placeOf}
+use Rattle.promises.specs.RuleEnds.{try-read-ends, try-read-cas-ends, try-write-ends, contend-ends}
+use Rattle.promises.specs.RuleEnds.{contend-cas-ends}
 use Rattle.promises.specs.RuleEnds.{register-ends, completed-ends, park-ends, walk-tail-ends, found-ends}
-use Rattle.promises.specs.RuleEnds.{queue-cas-ends, split-prev-ends, split-cas-ends, take-cas-ends, wake-store-ends}
+use Rattle.promises.specs.RuleEnds.{queue-cas-ends, split-prev-ends, split-cas-ends, take-cas-ends}
+use Rattle.promises.specs.RuleEnds.{wake-store-ends}
 use Rattle.promises.specs.RuleEnds.{read-unlock-ends, read-unlock-cas-ends, subtract-ends, write-unlock-ends}
 use Rattle.promises.specs.RuleEnds.{release-ends, downgrade-ends, downgrade-slow-ends}
 use Rattle.promises.specs.Shared.{tookAll}
@@ -119,9 +116,9 @@ seen-is-the-last-word m code t a w z is-step e x =
     let place : placeOf (eventOf m code t .machine) t ≡ s .c .thread .place = own-place m code t a w e s z in
     let effect = effectOf t m (eventOf m code t .machine) .queue in
     let last : lastBy m t (eventOf m code t .machine)
-            ≡ lastOf t p (m .word) (s .c .word) (queueEffect t p (standOf (s .c .thread .place))) =
-        ap (λ (y : Word). lastOf t p (m .word) y effect) (next-word m code t a w e s) ∙
-        ap (λ (y : Place). lastOf t p (m .word) (s .c .word) (queueEffect t p (standOf y))) place in (
+    ≡ lastOf t p (m .word) (s .c .word) (queueEffect t p (standOf (s .c .thread .place))) =
+    ap (λ (y : Word). lastOf t p (m .word) y effect) (next-word m code t a w e s) ∙
+    ap (λ (y : Place). lastOf t p (m .word) (s .c .word) (queueEffect t p (standOf y))) place in (
       λ q. seen-there _ _ x (facts .0) (sym (ap goesBy place) ∙ q) ∙ sym last,
       λ q. seen-there _ _ x (facts .1) (sym (ap restoresAt place) ∙ q),
     )

@@ -2,10 +2,10 @@
 -- m is any machine value, code any byte, t any thread number; `event m code t` is the event's outcome. That `eventOf`
 -- satisfies each is in Theorems.antt; programs that do not are in Wrong.antt.
 -- In order: demand 1, refusals; demand 2, how calls begin and end, what an access reads, what it writes, where it goes,
--- what is filled, the word gone by, the token, wakes, one access; grants, releases and downgrades; last, all together, and
--- that only one program satisfies them.
--- Not here: the tables that the statements cite (Refusals.antt, Shared.antt, Tables.antt, Goes.antt); statements over whole
--- runs (crate safety); replays and files (crate schedule).
+-- what is filled, the word gone by, the token, wakes, one access; grants, releases and downgrades; last, all together,
+-- and that only one program satisfies them.
+-- Not here: the tables that the statements cite (Refusals.antt, Shared.antt, Tables.antt, Goes.antt); statements over
+-- whole runs (crate safety); replays and files (crate schedule).
 -- Assumes nothing.
 use Prim.Native.Nat.{ℕ, _+_}
 use mathlib.Core.Bool.{Bool, true, false, not}
@@ -32,12 +32,11 @@ use Rattle.state.specs.declared.answer.Refusal.{Refusal}
 use Rattle.state.specs.declared.answer.Reply.the-variants.{Accepted, Refused}
 use Rattle.state.specs.declared.machine.Machine.{Machine}
 use Rattle.state.specs.declared.machine.Outcome.{Outcome}
-use Rattle.state.specs.declared.place.Place.{Place}
 use Rattle.state.specs.declared.place.Place.the-variants.{WalkHead}
 use Rattle.state.specs.declared.place.Walk.the-variants.{Queue}
 use Rattle.state.specs.declared.place.Who.{Who}
 use Rattle.lock.specs.Begin.{isIdle}
-use Rattle.lock.specs.Effect.{QueueEffect, effectOf, keeps, stands, heldAfter, grants, wordChanged}
+use Rattle.lock.specs.Effect.{effectOf, keeps, stands, heldAfter, grants, wordChanged}
 use Rattle.promises.specs.Program.{Program, placeOf, accessAt}
 use Rattle.promises.specs.Refusals.{and, begins, steps, numberGiven, firstOf, refusalRows}
 use Rattle.promises.specs.Shared.{Unless, writesWord, takesToken, keptBut, fills, tries, acquires}
@@ -166,9 +165,9 @@ FillsExactly event =
 
 -- ── demand 2: the word gone by ──
 
--- the last word: where the access lies in the word, the one that it left, loaded or reported, which is the word after it;
--- else the one carried before. One exception: a compare that takes the whole queue off, as the slow downgrade's, after
--- which a word is still carried, hands on the word that it replaced
+-- the last word: where the access lies in the word, the one that it left, loaded or reported, which is the word after
+-- it; else the one carried before. One exception: a compare that takes the whole queue off, as the slow downgrade's,
+-- after which a word is still carried, hands on the word that it replaced
 abbrev pub lastBy : Machine → ThreadNumber → Machine → Seen
 lastBy m t m′ =
     pick (tookAll (effectOf t m m′ .queue))
@@ -223,8 +222,8 @@ pub record WokenIsTheOwner (event : Program) : Type 0 where
 
 -- ── demand 2: one access a step ──
 
--- how node j stands after a step of t: as before; or it is the node accessed, changed at the accessed field alone; or it is
--- t's own, filled with the word
+-- how node j stands after a step of t: as before; or it is the node accessed, changed at the accessed field alone; or
+-- it is t's own, filled with the word
 pub data NodeAfter (m : Machine) (t : ThreadNumber) (m′ : Machine) (j : ℕ) : Type 0 where
   same : nodeAt m′ j ≡ nodeAt m j → NodeAfter m t m′ j
   accessed : touchedOf (accessAt m t) t .0 ≡ j + 1
@@ -236,8 +235,8 @@ pub data NodeAfter (m : Machine) (t : ThreadNumber) (m′ : Machine) (j : ℕ) :
       → nodeAt m′ j ≡ filledOf t writer (m .word)
       → NodeAfter m t m′ j
 
--- how thread u's token stands after an event of t that woke w: as before; or u is t, at park, where park-takes-the-token
--- gives its value; or u is woken
+-- how thread u's token stands after an event of t that woke w: as before; or u is t, at park, where
+-- park-takes-the-token gives its value; or u is woken
 pub data TokenAfter (m : Machine) (t : ThreadNumber) (w : Owner) (m′ : Machine) (u : ℕ) : Type 0 where
   kept : threadAt m′ u .token ≡ threadAt m u .token → TokenAfter m t w m′ u
   taken : u ≡ t .0 → takesToken (accessAt m t .kind) ≡ true → TokenAfter m t w m′ u
@@ -249,8 +248,8 @@ pub record AtAccess (m : Machine) (t : ThreadNumber) (w : Owner) (m′ : Machine
   pub nodes : (j : ℕ) → NodeAfter m t m′ j
   pub tokens : (u : ℕ) → TokenAfter m t w m′ u
 
--- an accepted step changes the shared part of the machine at its access alone, apart from its own unregistered node being
--- filled
+-- an accepted step changes the shared part of the machine at its access alone, apart from its own unregistered node
+-- being filled
 abbrev pub OneAccess : Program → Type 0
 OneAccess event =
     (m : Machine) (code : ℕ) (t : ThreadNumber) (a : Answer) (w : Owner)
@@ -346,10 +345,10 @@ AnsweredAtTheGrant event =
 
 -- ── all together ──
 
--- the statements that leave no choice. A reader who believes them has to believe their tables: refusalRows
--- (Refusals.antt); tries, fills, writesWord, takesToken and keptBut (Shared.antt); beginsAt, valueAt and leftBy (Tables.antt);
--- goesTo and nodeFor (Goes.antt); accessOf (state); lockEffect, standOf, heldAfter and grants (lock, Effect.antt); and the
--- words of word's Rules.antt
+-- the statements that leave no choice. A reader who believes them has to believe what they cite: refusalRows
+-- (Refusals.antt); tries, acquires, fills, writesWord, takesToken and keptBut (Shared.antt); valueAt, beginsAt and
+-- leftBy (Tables.antt); goesTo and nodeFor (Goes.antt); accessOf and filledOf (state); lockEffect, standOf, heldAfter
+-- and grants (lock, Effect.antt); the words of the lock's rules (word, Rules.antt), by the call permittedOf (acquire)
 pub record Right (event : Program) : Type 0 where
   pub table : RefusalTable event
   pub unchanged : RefusedUnchanged event

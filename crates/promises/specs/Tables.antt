@@ -1,9 +1,10 @@
--- The tables of docs/PLACES.md, for a reader to hold beside document 01: place, what was found at its access, what follows.
--- In order: what is found; where a call begins; the word that a place goes by; what is left at the access; the places that
--- the statements on grants name apart. Every table has its rows in the order of docs/PLACES.md.
--- Not here: where a step goes on to and which node it fills (Goes.antt); the access of a place (state, Access.antt); the words
--- that the lock's rules make (word, Rules.antt); the refusals (Refusals.antt). That a step follows the tables is said in
--- Statements.antt.
+-- The tables of docs/PLACES.md, for a reader to hold beside document 01: place, what was found at its access, what
+-- follows.
+-- In order: what is found; where a call begins; the word that a place goes by; what is left at the access; the places
+-- that the statements on grants name apart. Every table has its rows in the order of docs/PLACES.md.
+-- Not here: where a step goes on to and which node it fills (Goes.antt); the access of a place (state, Access.antt);
+-- the words that the lock's rules make (word, Rules.antt); the refusals (Refusals.antt). That a step follows the tables
+-- is said in Statements.antt.
 -- Assumes nothing.
 use Prim.Native.Nat.{ℕ, _+_, _-_}
 use mathlib.Core.Bool.{Bool, true, false, not}
@@ -21,7 +22,8 @@ use Rattle.word.specs.declared.rules.ReadUnlocked.{ReadUnlocked}
 use Rattle.word.specs.declared.rules.ReadUnlocked.the-variants.{To as UnlockTo, Contended, Refused as UnlockRefused}
 use Rattle.state.specs.Machine.{threadAt, nodeAt}
 use Rattle.state.specs.declared.access.Location.{Location}
-use Rattle.state.specs.declared.access.Location.the-variants.{Nowhere, Word as TheWord, Next, Prev, Tail, Completed, Token}
+use Rattle.state.specs.declared.access.Location.the-variants.{Nowhere, Word as TheWord, Next, Prev, Tail, Completed}
+use Rattle.state.specs.declared.access.Location.the-variants.{Token}
 use Rattle.state.specs.declared.machine.Machine.{Machine}
 use Rattle.state.specs.declared.place.Place.{Place}
 use Rattle.state.specs.declared.place.Place.the-variants as At

@@ -1,5 +1,5 @@
--- The theorems on one event, by their plain names: `eventOf` satisfies each statement of Statements.antt. In that page's order.
--- Each is proved in the file that its line names; programs that break a statement are in Wrong.antt.
+-- The theorems on one event, by their plain names: `eventOf` satisfies each statement of Statements.antt. In that
+-- page's order. Each is proved in the file that its line names; programs that break a statement are in Wrong.antt.
 -- Assumes nothing.
 use Rattle.lock.specs.Event.{eventOf}
 use Rattle.promises.specs.EndsExactly as HowCallsEnd

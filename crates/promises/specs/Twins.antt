@@ -1,5 +1,5 @@
--- Two steps of one place, whose views agree at its access, do the same: the half of reads-one-access that is about rules. In
--- order: what is told of two steps; rules at the word; every place.
+-- Two steps of one place, whose views agree at its access, do the same: the half of reads-one-access that is about
+-- rules. In order: what is told of two steps; rules at the word; every place.
 -- Not here: the machines that the views are of (ReadsOneAccess.antt); the value at an access (Values.antt).
 -- Assumes nothing.
 use Prim.Native.Nat.{ℕ}
@@ -24,7 +24,8 @@ use Rattle.state.specs.Access.{accessOf}
 use Rattle.state.specs.Node.{withNext, withPrev, withTail}
 use Rattle.state.specs.View.{agreesOf}
 use Rattle.state.specs.declared.access.Location.{Location}
-use Rattle.state.specs.declared.access.Location.the-variants.{Nowhere, Word as TheWord, Next, Prev, Tail, Completed, Token}
+use Rattle.state.specs.declared.access.Location.the-variants.{Word as TheWord, Next, Prev, Tail, Completed}
+use Rattle.state.specs.declared.access.Location.the-variants.{Token}
 use Rattle.state.specs.declared.answer.Answer.{Answer}
 use Rattle.state.specs.declared.answer.Answer.the-variants.{Went}
 use Rattle.state.specs.declared.holding.Holding.{Holding}
@@ -46,34 +47,15 @@ use Rattle.acquire.specs.declared.lock_contended.Permitted.the-variants.{To as 
 use Rattle.unlock.specs.AfterWalk.{markedBy}
 use Rattle.release.specs.ReadUnlock.{readUnlockBy, readUnlockCasBy}
 use Rattle.lock.specs.Advance.{advanceOf}
-use Rattle.promises.specs.Afterwards.{never}
+use Rattle.promises.specs.Places.{never}
 use Rattle.promises.specs.Statements.{readsMark}
-use Rattle.promises.specs.Tables.{inWord}
-use Rattle.promises.specs.Values.{bit-same, valueIn, Quiet}
+use Rattle.promises.specs.Values.{bit-same, valueIn, InWord, Quiet}
 
 -- ── what is told of two steps ──
 
 -- the own node, where the access lies in the word: kept in both machines, or filled alike
 abbrev pub FilledAlike : Location → Node → Node → Node → Node → Type 0
-FilledAlike Nowhere n n′ after after′ = Unit {0}
-FilledAlike TheWord n n′ after after′ = ((after ≡ n) × (after′ ≡ n′)) ⊎ (after ≡ after′)
-FilledAlike (Next k) n n′ after after′ = Unit {0}
-FilledAlike (Prev k) n n′ after after′ = Unit {0}
-FilledAlike (Tail k) n n′ after after′ = Unit {0}
-FilledAlike (Completed k) n n′ after after′ = Unit {0}
-FilledAlike (Token u) n n′ after after′ = Unit {0}
-
-pub filled-if : (l : Location) (n n′ a a′ : Node)
-    → FilledAlike l n n′ a a′
-    → inWord l ≡ true
-    → ((a ≡ n) × (a′ ≡ n′)) ⊎ (a ≡ a′)
-filled-if Nowhere n n′ a a′ f e = never e
-filled-if TheWord n n′ a a′ f e = f
-filled-if (Next k) n n′ a a′ f e = never e
-filled-if (Prev k) n n′ a a′ f e = never e
-filled-if (Tail k) n n′ a a′ f e = never e
-filled-if (Completed k) n n′ a a′ f e = never e
-filled-if (Token u) n n′ a a′ f e = never e
+FilledAlike l n n′ after after′ = InWord l (((after ≡ n) × (after′ ≡ n′)) ⊎ (after ≡ after′))
 
 -- what others learn of a step, and what it leaves at its access
 pub record Told : Type 0 where
@@ -264,7 +246,9 @@ module _ (t : ThreadNumber) (fails : Bool) (h : Holding) (n n′ : Node) (k k′
       (markedBy u (withTail n tail) who x tail mark)
       (markedBy (beside n′) (withTail n′ tail) who x tail mark′)
 
-  marked-by : (who : Who) (x : Word) (tail : NodeNumber) (mark mark′ : Mark) → mark ≡ mark′ → MarkedAlike who x tail mark mark′
+  marked-by : (who : Who) (x : Word) (tail : NodeNumber) (mark mark′ : Mark)
+      → mark ≡ mark′
+      → MarkedAlike who x tail mark mark′
   marked-by who x tail mark mark′ e = subst (MarkedAlike who x tail mark) e (by mark)
     where
       by : (y : Mark) → MarkedAlike who x tail y y
@@ -278,7 +262,7 @@ module _ (t : ThreadNumber) (fails : Bool) (h : Holding) (n n′ : Node) (k k′
   unfolding advanceOf
   found who x tail marks =
       let marked : readsMark x ≡ true → MarkedAlike who x tail k k′ =
-          λ y. marked-by who x tail k k′ (marks who x tail refl y) in
+      λ y. marked-by who x tail k k′ (marks who x tail refl y) in
       both-if (Twin (Tail (toNode x)) n n′) (locked x) (locked x) refl
       (λ y. both-if (Twin (Tail (toNode x)) n n′) (downgraded x) (downgraded x) refl
       (λ z. marked (rw (y, z)))

@@ -1,8 +1,8 @@
--- The value at an access, read in a machine and in what a step sees and changes of it. In order: bits; the value in a view or a
--- change; a token accessed is one's own; the value before; what is stored, and the value after.
+-- The value at an access, read in a machine and in what a step sees and changes of it. In order: bits; the value in a
+-- view or a change; a token accessed is one's own; the value before; what is stored, and the value after.
 -- Not here: the value at a location of a machine, as the statements read it (Tables.antt).
 -- Assumes nothing.
-use Prim.Native.Nat.{ℕ, _+_, _-_, _<_}
+use Prim.Native.Nat.{ℕ, _+_, _<_}
 use mathlib.Core.Bool.{Bool, true, false}
 use mathlib.Core.Path.{_≡_, refl, ap, _∙_}
 use native.Mathlib.Omega.{arith}
@@ -17,7 +17,8 @@ use Rattle.state.specs.Machine.{Sized, threadLimit, threadAt, nodeAt, blankThre
 use Rattle.state.specs.Node.{blankNode}
 use Rattle.state.specs.declared.access.Access.{Access}
 use Rattle.state.specs.declared.access.Location.{Location}
-use Rattle.state.specs.declared.access.Location.the-variants.{Nowhere, Word as TheWord, Next, Prev, Tail, Completed, Token}
+use Rattle.state.specs.declared.access.Location.the-variants.{Nowhere, Word as TheWord, Next, Prev, Tail, Completed}
+use Rattle.state.specs.declared.access.Location.the-variants.{Token}
 use Rattle.state.specs.declared.machine.Machine.{Machine}
 use Rattle.state.specs.declared.machine.Thread.{Thread}
 use Rattle.state.specs.declared.node.Node.{Node}
@@ -27,8 +28,9 @@ use Rattle.state.specs.declared.view.Change.{Change}
 use Rattle.lock.specs.Landed.{wokenOf, storedOf}
 use Rattle.lock.specs.Step.{parkingOf, haltedOf}
 use Rattle.lock.specs.Stored.{woken-word, woken-nodes, woken-place, woken-holding}
+use Rattle.promises.specs.Places.{never}
 use Rattle.promises.specs.Program.{placeOf}
-use Rattle.promises.specs.Tables.{bit, valueAt}
+use Rattle.promises.specs.Tables.{bit, valueAt, inWord}
 
 pub bit-same : (x y : Bool) → bit x ≡ bit y → x ≡ y
 bit-same true true e = refl
@@ -48,36 +50,58 @@ valueIn (Tail k) w n token = n .tail .0
 valueIn (Completed k) w n token = bit (n .completed)
 valueIn (Token u) w n token = bit token
 
--- nobody is woken by an access to a token
-abbrev pub Quiet : Location → Owner → Type 0
-Quiet Nowhere w = Unit {0}
-Quiet TheWord w = Unit {0}
-Quiet (Next k) w = Unit {0}
-Quiet (Prev k) w = Unit {0}
-Quiet (Tail k) w = Unit {0}
-Quiet (Completed k) w = Unit {0}
-Quiet (Token u) w = w ≡ Nobody
+-- a claim where the access lies in the word
+abbrev pub InWord : Location → Type 0 → Type 0
+InWord Nowhere X = Unit {0}
+InWord TheWord X = X
+InWord (Next k) X = Unit {0}
+InWord (Prev k) X = Unit {0}
+InWord (Tail k) X = Unit {0}
+InWord (Completed k) X = Unit {0}
+InWord (Token u) X = Unit {0}
+
+pub in-word : (l : Location) (X : Type 0) → inWord l ≡ true → InWord l X → X
+in-word Nowhere X e x = never e
+in-word TheWord X e x = x
+in-word (Next k) X e x = never e
+in-word (Prev k) X e x = never e
+in-word (Tail k) X e x = never e
+in-word (Completed k) X e x = never e
+in-word (Token u) X e x = never e
+
+-- there the node touched is the own one
+pub own-touched : (l : Location) (t : ThreadNumber) → inWord l ≡ true → touchedAt l t .0 ≡ t .0 + 1
+own-touched Nowhere t e = refl
+own-touched TheWord t e = refl
+own-touched (Next k) t e = never e
+own-touched (Prev k) t e = never e
+own-touched (Tail k) t e = never e
+own-touched (Completed k) t e = never e
+own-touched (Token u) t e = refl
 
 -- ── a token accessed is one's own ──
 
-abbrev pub TokenOwn : Location → ThreadNumber → Type 0
-TokenOwn Nowhere t = Unit {0}
-TokenOwn TheWord t = Unit {0}
-TokenOwn (Next k) t = Unit {0}
-TokenOwn (Prev k) t = Unit {0}
-TokenOwn (Tail k) t = Unit {0}
-TokenOwn (Completed k) t = Unit {0}
-TokenOwn (Token u) t = u ≡ t
+-- a claim where the access lies in a thread's token
+abbrev pub AtToken : Location → (ThreadNumber → Type 0) → Type 0
+AtToken Nowhere X = Unit {0}
+AtToken TheWord X = Unit {0}
+AtToken (Next k) X = Unit {0}
+AtToken (Prev k) X = Unit {0}
+AtToken (Tail k) X = Unit {0}
+AtToken (Completed k) X = Unit {0}
+AtToken (Token u) X = X u
 
--- two tokens are the same, where a token is accessed
+-- nobody is woken by it
+abbrev pub Quiet : Location → Owner → Type 0
+Quiet l w = AtToken l (λ u. w ≡ Nobody)
+
+-- it is the own one
+abbrev pub TokenOwn : Location → ThreadNumber → Type 0
+TokenOwn l t = AtToken l (λ u. u ≡ t)
+
+-- two tokens are the same
 abbrev pub SameToken : Location → Bool → Bool → Type 0
-SameToken Nowhere x y = Unit {0}
-SameToken TheWord x y = Unit {0}
-SameToken (Next k) x y = Unit {0}
-SameToken (Prev k) x y = Unit {0}
-SameToken (Tail k) x y = Unit {0}
-SameToken (Completed k) x y = Unit {0}
-SameToken (Token u) x y = bit x ≡ bit y
+SameToken l x y = AtToken l (λ u. bit x ≡ bit y)
 
 -- a place accesses no token but the own one, and is halted by none that it does not access
 pub record OwnToken (t : ThreadNumber) (a : Access) : Type 0 where

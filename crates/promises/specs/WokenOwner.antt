@@ -1,9 +1,9 @@
--- Proof of woken-is-the-owner: whom an event wakes. In order: only completing wakes; the owner of a node of the machine; a step
--- that completes; the theorem.
+-- Proof of woken-is-the-owner: whom an event wakes. In order: only completing wakes; the owner of a node of the
+-- machine; a step that completes; the theorem.
 -- Not here: the statement (Statements.antt).
 -- Assumes nothing.
 use Prim.Native.Nat.{ℕ, _+_, _-_, _≤_, _<_}
-use mathlib.Core.Bool.{Bool, true, false}
+use mathlib.Core.Bool.{true, false}
 use mathlib.Core.Logic.{_≢_}
 use mathlib.Core.Path.{_≡_, refl, sym, ap, _∙_}
 use native.Mathlib.Omega.{arith}
@@ -11,7 +11,6 @@ use lib.Dec.{ltb}
 use lib.ListN.{length, length-set}
 use lib.Seq.{getD-set-same}
 use borrow.Author.Tests.{lt-ltb, le-ltb}
-use Rattle.word.specs.Base.{pick}
 use Rattle.word.specs.Cases.{pick-yes, pick-no}
 use Rattle.word.specs.Number.{thread, ownerOf}
 use Rattle.word.specs.declared.number.NodeNumber.{NodeNumber}
@@ -59,7 +58,7 @@ woken-otherwise Kinds.Park l e = refl
 owner-in : (n : NodeNumber) (k : ℕ) → n .0 ≡ k + 1 → k + 1 ≤ 256 → ownerOf n ≡ Somebody (thread k)
 owner-in n k e l =
     let is : Somebody (thread k) ≡ Somebody (thread (n .0 - 1)) =
-        ap (λ (j : ℕ). Somebody (thread j)) (omega (arith, e)) in
+    ap (λ (j : ℕ). Somebody (thread j)) (omega (arith, e)) in
     let below : ltb 256 (n .0) ≡ false = le-ltb 256 (n .0) (omega (arith, e, l)) in
     let above : ltb (n .0) 1 ≡ false = le-ltb (n .0) 1 (omega (arith, e)) in
     sym
@@ -69,8 +68,8 @@ owner-in n k e l =
 -- ── a step that completes ──
 
 module _ (m : Machine) (code : ℕ) (t : ThreadNumber) (a : Answer) (w : Owner) (n : NodeNumber) (z : Sized m)
-  (e : eventOf m code t .reply ≡ Accepted a w) (at : accessAt m t ≡ access Kinds.Complete (Completed n))
-  (s : Stepping m code t (eventOf m code t)) where
+    (e : eventOf m code t .reply ≡ Accepted a w) (at : accessAt m t ≡ access Kinds.Complete (Completed n))
+    (s : Stepping m code t (eventOf m code t)) where
   number : n .0 ≡ s .k + 1
   number = sym (ap (λ (x : Access). touchedOf x t .0) at) ∙ touched m code t a w e s
 
@@ -89,7 +88,7 @@ module _ (m : Machine) (code : ℕ) (t : ThreadNumber) (a : Answer) (w : Owner) 
   token-set =
       let stored = laid m code t a w e s in
       let there : s .k < length (laid m code t a w e s .threads) =
-          omega (arith, low, length-set (m .threads) (t .0) (s .c .thread), z .threads) in
+      omega (arith, low, length-set (m .threads) (t .0) (s .c .thread), z .threads) in
       ap (λ (x : Machine). threadAt x (s .k) .token)
       (sym (pick-yes (ltb (s .k) threadLimit) _ _ _ (lt-ltb (s .k) threadLimit low) refl)) ∙
       ap (λ (x : Thread). x .token)
@@ -116,7 +115,7 @@ idle-access : (t : ThreadNumber) (p : Place) (n : NodeNumber)
 unfolding accessOf
 idle-access t p n i e =
     let q : Kinds.Nothing ≡ Kinds.Complete =
-        sym (ap (λ (x : Place). accessOf t x .kind) i) ∙ ap (λ (x : Access). x .kind) e in
+    sym (ap (λ (x : Place). accessOf t x .kind) i) ∙ ap (λ (x : Access). x .kind) e in
     let bad : _≡_ {A = ℕ} 0 1 = cc in omega arith
 
 begun-nobody : (m : Machine) (code : ℕ) (t : ThreadNumber) (a : Answer) (w : Owner)

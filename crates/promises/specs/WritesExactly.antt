@@ -1,5 +1,5 @@
--- Proof of writes-exactly: the value that a step leaves at its access. In order: what a compare leaves; the places whose compare
--- may find its rule refusing; every place; nobody is woken by an access to a token; the machine.
+-- Proof of writes-exactly: the value that a step leaves at its access. In order: what a compare leaves; the places
+-- whose compare may find its rule refusing; every place; nobody is woken by an access to a token; the machine.
 -- Not here: the statement (Statements.antt); the table (Tables.antt).
 -- Assumes nothing.
 use Prim.Native.Nat.{ℕ, _+_, _<_}
@@ -12,7 +12,6 @@ use Rattle.word.specs.Base.{pick}
 use Rattle.word.specs.Flags.{word, LOCKED, SINGLE, locked, clearQueueLocked}
 use Rattle.word.specs.Rules.{readLockOf, registeredOf, takenOf, readUnlockOf}
 use Rattle.word.specs.declared.flags.Word.{Word}
-use Rattle.word.specs.declared.number.Owner.{Owner}
 use Rattle.word.specs.declared.number.Owner.the-variants.{Nobody}
 use Rattle.word.specs.declared.number.ThreadNumber.{ThreadNumber}
 use Rattle.word.specs.declared.rules.ReadLocked.{ReadLocked}
@@ -20,15 +19,13 @@ use Rattle.word.specs.declared.rules.ReadLocked.the-variants.{To as ReadTo, Ref
 use Rattle.word.specs.declared.rules.ReadUnlocked.{ReadUnlocked}
 use Rattle.word.specs.declared.rules.ReadUnlocked.the-variants.{To as UnlockTo, Contended, Refused as UnlockRefused}
 use Rattle.state.specs.Access.{accessOf, touchedOf}
-use Rattle.state.specs.Machine.{Sized, threadLimit, threadAt, nodeAt}
+use Rattle.state.specs.Machine.{threadLimit, threadAt, nodeAt}
 use Rattle.state.specs.View.{agreesOf}
 use Rattle.state.specs.declared.access.Kind.{Kind}
 use Rattle.state.specs.declared.access.Kind.the-variants as Kinds
 use Rattle.state.specs.declared.access.Location.{Location}
-use Rattle.state.specs.declared.access.Location.the-variants.{Nowhere, Word as TheWord, Next, Prev, Tail, Completed, Token}
-use Rattle.state.specs.declared.answer.Answer.{Answer}
-use Rattle.state.specs.declared.answer.Reply.the-variants.{Accepted}
-use Rattle.state.specs.declared.machine.Machine.{Machine}
+use Rattle.state.specs.declared.access.Location.the-variants.{Nowhere, Word as TheWord, Next, Prev, Tail, Completed}
+use Rattle.state.specs.declared.access.Location.the-variants.{Token}
 use Rattle.state.specs.declared.machine.Outcome.{Outcome}
 use Rattle.state.specs.declared.place.Place.{Place}
 use Rattle.state.specs.declared.place.Place.the-variants as At
@@ -52,7 +49,8 @@ use Rattle.promises.specs.RuleEnds.{try-read-ends, contend-ends, complet
 use Rattle.promises.specs.RuleEnds.{split-prev-ends, wake-store-ends, read-unlock-ends, subtract-ends}
 use Rattle.promises.specs.Shared.{wokenBy}
 use Rattle.promises.specs.Statements.{WritesExactly}
-use Rattle.promises.specs.Tables.{bit, valueAt, compared, readTo, permitTo, unlockTo, releaseTo, downgradeTo, leftBy}
+use Rattle.promises.specs.Tables.{bit, valueAt, compared, readTo, permitTo, unlockTo, releaseTo, downgradeTo}
+use Rattle.promises.specs.Tables.{leftBy}
 use Rattle.promises.specs.Values.{valueIn, Quiet, TokenOwn, own-token, value-in, stored-value}
 
 -- the value after is the one of the table
@@ -69,7 +67,7 @@ module _ (v : View) where
 
   -- a place whose access is a compare of the word seen, to a new one
   module _ (p : Place) (x : Word) (to : ℕ)
-    (is : (c : Change) → c .word .0 ≡ compared (v .fails) (v .word .0) (x .0) to → Leaves v p c) where
+      (is : (c : Change) → c .word .0 ≡ compared (v .fails) (v .word .0) (x .0) to → Leaves v p c) where
     -- it failed, and the word is kept
     fails : agreesOf v x ≡ false → (s : Stepped) → All Keeps s → All (Leaves v p) s
     fails a (To c) k = is c (k ∙ pick-no (agreesOf v x) (v .word .0) to (v .word .0) a refl)
@@ -184,7 +182,8 @@ module _ (v : View) where
   rule-leaves (At.TryReadCas b x) = try-read-cas b x
   rule-leaves (At.TryWriteOr b) =
       pick-both (All (Leaves v (At.TryWriteOr b))) (locked (v .word)) _ _
-      (λ e. ap (λ (y : Word). y .0) (pick-yes (locked (v .word)) (v .word) (v .word) (word (v .word .0 + LOCKED)) e refl))
+      (λ e. ap (λ (y : Word). y .0)
+      (pick-yes (locked (v .word)) (v .word) (v .word) (word (v .word .0 + LOCKED)) e refl))
       (λ e. refl)
   rule-leaves (At.ContendLoad w r) = contend-ends v _ w r refl refl refl
   rule-leaves (At.ContendCas w r x) = contend-cas w r x
@@ -253,11 +252,12 @@ writes-exactly m code t a w z is-step e =
     let facts : Leaves v p (s .c) = by-rule m code t a w e s (Leaves v p) (rule-leaves v p) in
     let at = touched m code t a w e s in
     let few = good-count (m .count) (s .good) .1 in
-    let low : s .k < threadLimit = omega (arith, slot-at (touchedOf (accessAt m t) t) (m .count) (s .k) (s .slot) .1, few) in
+    let slot = slot-at (touchedOf (accessAt m t) t) (m .count) (s .k) (s .slot) .1 in
+    let low : s .k < threadLimit = omega (arith, slot, few) in
     let own-low : t .0 < threadLimit = omega (arith, s .below, few) in
     let own : TokenOwn l t = own-token t p .own in
     let quiet : Quiet l (s .c .woken) =
-        subst (Quiet l) (sym (obeyed m code t a w e s .woken)) (quiet-of (accessAt m t .kind) l) in
+    subst (Quiet l) (sym (obeyed m code t a w e s .woken)) (quiet-of (accessAt m t .kind) l) in
     let found = valueIn l (m .word) (nodeAt m (s .k)) (threadAt m (t .0) .token) in
     ap (λ (o : Outcome). valueAt (o .machine) l) (s .is) ∙
     (stored-value m t z (s .k) low own-low (s .c) l at own quiet ∙
