@@ -41,7 +41,7 @@ use Rattle.lock.specs.Effect.{LockEffect, keeps, grantsRead, grantsWrite, lockE
 use Rattle.promises.specs.Refusals.{and}
 use Rattle.promises.specs.Shared.{lockDone}
 use Rattle.promises.specs.Obeys.{All, agrees-word}
-use Rattle.promises.specs.Statements.{subtracting, contended, asserted}
+use Rattle.promises.specs.Tables.{subtracting, contended, asserted}
 
 -- the lock is kept, or the word changed, or it is the subtraction
 abbrev pub Moves : View → Place → Change → Type 0

@@ -98,7 +98,7 @@ kept-same Parking l n = refl
 true-not-false : true ≡ false → ⊥
 true-not-false e = subst T e tt
 
-same-word : (w : ℕ) → not (eqb w w) ≡ false
+pub same-word : (w : ℕ) → not (eqb w w) ≡ false
 same-word w = ap not (eq-eqb w w refl)
 
 other-word : (a b : ℕ) → (a ≡ b → ⊥) → not (eqb a b) ≡ true
@@ -194,7 +194,7 @@ module _ (v : View) where
       (readLockOf (v .word))
 
   -- a granted reader's word is above the one seen, so it changed
-  read-granted : (blocking : Bool) (seen to : Word) → readLockOf seen ≡ ReadTo to → agreesOf v seen ≡ true → (s : _) → lockEffect (TryReadCas blocking seen) (v .holding) (not (eqb (to .0) (v .word .0))) s ≡ grantsRead
+  pub read-granted : (blocking : Bool) (seen to : Word) → readLockOf seen ≡ ReadTo to → agreesOf v seen ≡ true → (s : _) → lockEffect (TryReadCas blocking seen) (v .holding) (not (eqb (to .0) (v .word .0))) s ≡ grantsRead
   unfolding lockEffect
   read-granted blocking seen to e a s =
       ap (λ (b : Bool). pick b grantsRead keeps)
@@ -224,7 +224,7 @@ module _ (v : View) where
   write-changed : locked (v .word) ≡ false → not (eqb (setLocked (v .word) .0) (v .word .0)) ≡ true
   write-changed e = other-word (setLocked (v .word) .0) (v .word .0) (rw e (λ q. omega (arith, q)))
 
-  write-granted : (blocking : Bool) → locked (v .word) ≡ false → (s : Stand) → lockEffect (TryWriteOr blocking) (v .holding) (not (eqb (setLocked (v .word) .0) (v .word .0))) s ≡ grantsWrite
+  pub write-granted : (blocking : Bool) → locked (v .word) ≡ false → (s : Stand) → lockEffect (TryWriteOr blocking) (v .holding) (not (eqb (setLocked (v .word) .0) (v .word .0))) s ≡ grantsWrite
   unfolding lockEffect
   write-granted blocking e s = ap (λ (b : Bool). pick b grantsWrite keeps) (write-changed e)
 

@@ -11,9 +11,10 @@ use Rattle.state.specs.declared.place.Place.{Place}
 use Rattle.state.specs.declared.place.Place.the-variants.{Idle, TryReadLoad, TryReadCas, TryWriteOr, ContendLoad, ContendCas, RegisterCas, CompletedLoad, Park, WalkTail, WalkNext, WalkPrev, WalkHead, QueueCas, SplitPrev, SplitStore, SplitCas, SplitRestore, TakeCas, WakePrev, WakeStore, ReadUnlockLoad, ReadUnlockCas, Subtract, WriteUnlockCas, ReleaseCas, DowngradeCas, DowngradeSlowCas}
 use Rattle.lock.specs.Effect.{Stand, lockEffect, keeps}
 use Rattle.promises.specs.Shared.{fills, writesWord}
-use Rattle.promises.specs.Statements.{subtracting}
+use Rattle.promises.specs.Tables.{subtracting}
 
-never : {A : Type 0} → false ≡ true → A
+-- what is false is not true
+pub never : {A : Type 0} → false ≡ true → A
 never e = absurd (subst T (sym e) tt)
 
 -- a place that may fill the own node accesses the word

@@ -249,7 +249,7 @@ number-named CannotFail = (refl, omega arith)
 number-named Damaged = (refl, omega arith)
 
 -- the number tells the refusal
-reply-number : (y : Reply) (r : Refusal) → numberGiven y ≡ refusalNumber r → y ≡ Refused r
+pub reply-number : (y : Reply) (r : Refusal) → numberGiven y ≡ refusalNumber r → y ≡ Refused r
 reply-number (Accepted a woken) r e = absurd (omega (arith, number-named r .1))
 reply-number (Refused s) r e = ap Refused (sym (number-named s .0) ∙ ap named e ∙ number-named r .0)
 

@@ -1,4 +1,9 @@
--- What an access may change: the word, one field of one node, a token; and what each place's step may answer and hold. Assumes nothing.
+-- What an access may change, and what a step may answer and hold: tables that the statements share with the proof that
+-- every rule obeys. In order: what an access may change, by its kind and location; calls that ask for the lock, by
+-- place; answers; what a step at a place does, as far as the statements on one access and on grants go.
+-- Not here: what is left at an access and where a step goes on to, exactly (Tables.antt, Goes.antt); that the rules do
+-- so (Obeys.antt).
+-- Assumes nothing.
 use mathlib.Core.Bool.{Bool, true, false, not}
 use mathlib.Core.Path.{_≡_}
 use mathlib.Core.Logic.{_⊎_}
@@ -10,9 +15,11 @@ use Rattle.state.specs.Access.{accessOf}
 use Rattle.state.specs.Node.{filledOf, withNext, withPrev, withTail}
 use Rattle.state.specs.declared.access.Access.{Access}
 use Rattle.state.specs.declared.access.Kind.{Kind}
-use Rattle.state.specs.declared.access.Kind.the-variants.{Nothing, Load, Store, WeakCompare, StrongCompare, FetchOr, Subtract as Subtracting, Complete, Park as Parking}
+use Rattle.state.specs.declared.access.Kind.the-variants.{Nothing, Load, Store, WeakCompare, StrongCompare, FetchOr}
+use Rattle.state.specs.declared.access.Kind.the-variants.{Subtract as Subtracting, Complete, Park as Parking}
 use Rattle.state.specs.declared.access.Location.{Location}
-use Rattle.state.specs.declared.access.Location.the-variants.{Nowhere, Word as TheWord, Next, Prev, Tail, Completed, Token}
+use Rattle.state.specs.declared.access.Location.the-variants.{Nowhere, Word as TheWord, Next, Prev, Tail, Completed}
+use Rattle.state.specs.declared.access.Location.the-variants.{Token}
 use Rattle.state.specs.declared.answer.Answer.{Answer}
 use Rattle.state.specs.declared.answer.Answer.the-variants.{Begun, Went, Done, Yes, No}
 use Rattle.state.specs.declared.node.Node.{Node}
@@ -21,10 +28,16 @@ use Rattle.state.specs.declared.place.Who.the-variants.{Waiter, Leaver}
 use Rattle.state.specs.declared.place.Walk.{Walk}
 use Rattle.state.specs.declared.place.Walk.the-variants.{Queue, ReadUnlock, Downgrade}
 use Rattle.state.specs.declared.place.Place.{Place}
-use Rattle.state.specs.declared.place.Place.the-variants.{Idle, TryReadLoad, TryReadCas, TryWriteOr, ContendLoad, ContendCas, RegisterCas, CompletedLoad, Park, WalkTail, WalkNext, WalkPrev, WalkHead, QueueCas, SplitPrev, SplitStore, SplitCas, SplitRestore, TakeCas, WakePrev, WakeStore, ReadUnlockLoad, ReadUnlockCas, Subtract, WriteUnlockCas, ReleaseCas, DowngradeCas, DowngradeSlowCas}
+use Rattle.state.specs.declared.place.Place.the-variants.{Idle, TryReadLoad, TryReadCas, TryWriteOr, ContendLoad}
+use Rattle.state.specs.declared.place.Place.the-variants.{ContendCas, RegisterCas, CompletedLoad, Park, WalkTail}
+use Rattle.state.specs.declared.place.Place.the-variants.{WalkNext, WalkPrev, WalkHead, QueueCas, SplitPrev, SplitStore}
+use Rattle.state.specs.declared.place.Place.the-variants.{SplitCas, SplitRestore, TakeCas, WakePrev, WakeStore}
+use Rattle.state.specs.declared.place.Place.the-variants.{ReadUnlockLoad, ReadUnlockCas, Subtract, WriteUnlockCas}
+use Rattle.state.specs.declared.place.Place.the-variants.{ReleaseCas, DowngradeCas, DowngradeSlowCas}
 use Rattle.state.specs.declared.view.View.{View}
 use Rattle.state.specs.declared.view.Change.{Change}
 use Rattle.lock.specs.Effect.{LockEffect, lockEffect, standOf, heldAfter, grants}
+use Rattle.lock.specs.Effect.{QueueEffect, stands, registers, setsAside, restores, takesTail, takesAll, completes}
 use Rattle.promises.specs.Refusals.{and}
 
 -- ── what an access may change ──
@@ -148,6 +161,16 @@ wokenBy Subtracting l = Nobody
 wokenBy Complete l = ownerAt l
 wokenBy Parking l = Nobody
 
+-- the whole queue was taken off
+abbrev pub tookAll : QueueEffect → Bool
+tookAll stands = false
+tookAll (registers k) = false
+tookAll (setsAside k) = false
+tookAll (restores k) = false
+tookAll (takesTail k) = false
+tookAll takesAll = true
+tookAll (completes k) = false
+
 -- ── calls that ask for the lock ──
 
 abbrev pub byWaiter : Who → Bool
@@ -221,6 +244,8 @@ acquires (ReleaseCas _) = false
 acquires DowngradeCas = false
 acquires (DowngradeSlowCas _) = false
 
+-- ── answers ──
+
 abbrev pub isYes : Answer → Bool
 isYes Begun = false
 isYes Went = false
@@ -234,6 +259,28 @@ isDone Went = false
 isDone Done = true
 isDone Yes = false
 isDone No = false
+
+abbrev pub isNo : Answer → Bool
+isNo Begun = false
+isNo Went = false
+isNo Done = false
+isNo Yes = false
+isNo No = true
+
+abbrev pub isWent : Answer → Bool
+isWent Begun = false
+isWent Went = true
+isWent Done = false
+isWent Yes = false
+isWent No = false
+
+-- done, yes and no end a call
+abbrev pub ends : Answer → Bool
+ends Begun = false
+ends Went = false
+ends Done = true
+ends Yes = true
+ends No = true
 
 -- ── what a step at a place does, as far as the theorems go ──
 
@@ -250,7 +297,8 @@ pub record Obeys (v : View) (p : Place) (c : Change) : Type 0 where
   -- the word stays, unless the access is a compare or a fetch-or
   pub word : Unless (writesWord (accessOf (v .me) p .kind)) (c .word ≡ v .word)
   -- the node stays but for the field accessed; or it is the own one, filled
-  pub node : (c .node ≡ keptBut (accessOf (v .me) p) (c .node) (v .node)) ⊎ ((fills p ≡ true) × ((writer : Bool) × (c .node ≡ filledOf (v .me) writer (v .word))))
+  pub node : (c .node ≡ keptBut (accessOf (v .me) p) (c .node) (v .node))
+      ⊎ ((fills p ≡ true) × ((writer : Bool) × (c .node ≡ filledOf (v .me) writer (v .word))))
   -- the own token stays, unless the access is park
   pub token : Unless (takesToken (accessOf (v .me) p .kind)) (c .thread .token ≡ v .token)
   -- only completing wakes, and it wakes the owner

@@ -17,6 +17,7 @@ use Rattle.state.specs.declared.holding.Holding.{Holding}
 use Rattle.state.specs.declared.holding.Holding.the-variants.{Nothing, Read, Write}
 use Rattle.state.specs.declared.machine.Machine.{Machine}
 use Rattle.lock.specs.Effect.{LockEffect, keeps, grantsRead, grantsWrite, releasesRead, releasesWrite, downgrades}
+use Rattle.lock.specs.Event.{eventOf}
 use Rattle.listing.specs.Listing.{Listed, lost, listed, nodeBy, listedOf}
 use Rattle.listing.specs.ReaderCount.{readsBelow, oldest, inOldestBy, heldOf, readersOf}
 use Rattle.listing.specs.declared.reader_count.Readers.{Readers}
@@ -31,7 +32,8 @@ use Rattle.safety.specs.Intervals.{down, node-by}
 use Rattle.safety.specs.Members.{oldest-down}
 use Rattle.safety.specs.Plain.{within, event-allowed}
 use Rattle.safety.specs.Runs.{same-count}
-use Rattle.safety.specs.Statements.{Event, after, effectIn, ran, Holders, holdersOf, Allows, gained, given-up, tally, Counted}
+use Rattle.safety.specs.Statements.{Event, after, effectIn, ranBy, ran, Holders, holdersOf, Allows}
+use Rattle.safety.specs.Statements.{gained, given-up, tally, Counted}
 
 -- ── along a run ──
 
@@ -68,8 +70,9 @@ module _ (m : Machine) (ok : Ok m) (e : Event) where
       by releasesWrite z = omega (arith, becomes Nothing (holds-within (omega (arith, ap writesOf (z .0)))) (z .1), ap readsOf (z .0))
       by downgrades z = omega (arith, becomes Read (holds-within (omega (arith, ap writesOf (z .0)))) (z .1), ap readsOf (z .0))
 
-pub tallied : (m : Machine) → Ok m → (es : List Event) → tally gained m es + readersIn m ≡ readersIn (ran m es) + tally given-up m es
-unfolding tally ran
+pub tallied : (m : Machine) → Ok m → (es : List Event)
+    → tally eventOf gained m es + readersIn m ≡ readersIn (ran m es) + tally eventOf given-up m es
+unfolding tally ranBy
 tallied m ok [] = omega arith
 tallied m ok (e ∷ es) = omega (arith, counts-on m ok e, tallied (after m e) (event-safe m ok (e .thread) (e .code) .ok) es)
 

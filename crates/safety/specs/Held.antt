@@ -4,7 +4,9 @@ use mathlib.Core.Bool.{Bool, true, false}
 use mathlib.Core.List.{[], _∷_}
 use mathlib.Core.Logic.{_⊎_, inl, inr}
 use mathlib.Core.Path.{_≡_, refl, sym, ap, _∙_}
+use native.Mathlib.Decide.{decLt}
 use native.Mathlib.Omega.{arith}
+use lib.ListN.{length}
 use Rattle.word.specs.Base.{pick}
 use Rattle.word.specs.Cases.{pick-yes}
 use Rattle.word.specs.Flags.{queued, toNode}
@@ -17,6 +19,7 @@ use Rattle.state.specs.declared.place.Walk.the-variants.{Queue as ForQueue, Rea
 use Rattle.state.specs.declared.place.Place.{Place}
 use Rattle.state.specs.declared.place.Place.the-variants.{Idle, TryReadLoad, TryReadCas, TryWriteOr, ContendLoad, ContendCas, RegisterCas, CompletedLoad, Park, WalkTail, WalkNext, WalkPrev, WalkHead, QueueCas, SplitPrev, SplitStore, SplitCas, SplitRestore, TakeCas, WakePrev, WakeStore, ReadUnlockLoad, ReadUnlockCas, Subtract, WriteUnlockCas, ReleaseCas, DowngradeCas, DowngradeSlowCas}
 use Rattle.listing.specs.Listing.{Listed, listed, prepend, followedOf, listedOf}
+use Rattle.standing.specs.Part.{partOf}
 use Rattle.queue.specs.Queue.{Part, Live, Links, Queue, Walk as Walks, Full}
 use Rattle.queue.specs.Tickets.{Ghost, Held, queueOf as ticketsOf, takenOf, live-queue, live-taken}
 use Rattle.queue.specs.Roles.{Know, Ground, AsideAt, WakeAt, StoreAt}
@@ -26,8 +29,9 @@ use Rattle.invariant.specs.Beside.{inside}
 use Rattle.invariant.specs.Wake.{Waiter-of, waiter-of}
 use Rattle.invariant.specs.Bridge.{nodeIn, lockOf}
 use Rattle.invariant.specs.Events.{Ok}
-use Rattle.safety.specs.Lists.{turned, queueIn, backFrom, walkedIn, heldIn}
-use Rattle.safety.specs.Intervals.{up, down, reverse-down, node-is, lists-all, few-tickets, Begins, goes-back}
+use Rattle.safety.specs.Lists.{turned, queueIn, backFrom, heldBy}
+use Rattle.safety.specs.Intervals.{up, down, length-up, reverse-down, node-is, lists-all, few-tickets}
+use Rattle.safety.specs.Intervals.{Begins, goes-back}
 
 module _ (m : Machine) (ok : Ok m) where
   abbrev g : Ghost
@@ -86,7 +90,8 @@ module _ (m : Machine) (ok : Ok m) where
     is-looking false e = is-none e
 
     -- a downgrade's is over all that it took
-    is-alone : (seen : Word) (h : ℕ) → part .lo ≤ h → suc h ≡ part .hi → g .log h ≡ toNode seen .0 → Queue part links → Is (walkedIn m Downgrade seen)
+    is-alone : (seen : Word) (h : ℕ) → part .lo ≤ h → suc h ≡ part .hi → g .log h ≡ toNode seen .0
+        → Queue part links → Is (turned (followedOf m (toNode seen)))
     is-alone seen h low last head q = ap turned (lists-all m part mine-live mine-range q h last low (toNode seen) (sym head)) ∙ ap listed (reverse-down (g .log) (part .lo) (part .hi - part .lo))
 
     is-one : (tail : NodeNumber) (hd : ℕ) → AsideAt (ticketsOf g) part links hd (tail .0) → Is (listed (tail ∷ []))
@@ -118,7 +123,7 @@ module _ (m : Machine) (ok : Ok m) where
         begins (suc k) e (inl z) = absurd (omega arith)
         begins (suc k) e (inr z) = sym (z .1)
 
-    held-at : (p : Place) → Know (ticketsOf g) part links t (about p .role) → Is (heldIn m p)
+    held-at : (p : Place) → Know (ticketsOf g) part links t (about p .role) → Is (heldBy m (partOf p))
     held-at Idle w = is-none w
     held-at (TryReadLoad _) w = is-none w
     held-at (TryReadCas _ _) w = is-none w
@@ -156,5 +161,14 @@ module _ (m : Machine) (ok : Ok m) where
     held-at DowngradeCas w = is-none w
     held-at (DowngradeSlowCas _) w = is-none w
 
-    pub held-is : heldIn m (threadAt m t .place) ≡ listed (up (g .log) (g .taken t .beg) (g .taken t .end - g .taken t .beg))
+    pub held-is : heldBy m (partOf (threadAt m t .place))
+        ≡ listed (up (g .log) (g .taken t .beg) (g .taken t .end - g .taken t .beg))
     held-is = held-at (threadAt m t .place) (ok .inv .queue .know t)
+
+    -- no more of them than threads
+    pub held-few : length (up (g .log) (g .taken t .beg) (g .taken t .end - g .taken t .beg)) ≤ m .count
+    held-few = rw (length-up (g .log) (part .lo) (part .hi - part .lo)) (by (decLt (part .lo) (part .hi)))
+      where
+        by : Dec (part .lo < part .hi) → part .hi - part .lo ≤ m .count
+        by (yes l) = few-tickets m part mine-live mine-range (omega arith)
+        by (no l) = omega arith

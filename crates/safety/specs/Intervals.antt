@@ -8,6 +8,7 @@ use mathlib.Core.Path.{_≡_, refl, sym, ap, _∙_}
 use native.Mathlib.Nat.{add-suc, add-zero}
 use native.Mathlib.Omega.{arith}
 use lib.Dec.{ltb, leb, eqb}
+use lib.ListN.{length}
 use borrow.Author.Tests.{eq-eqb, ne-eqb, le-ltb, le-leb}
 use Rattle.word.specs.Base.{pick}
 use Rattle.word.specs.Cases.{pick-no, pick-yes}
@@ -31,6 +32,10 @@ up log a (suc k) = node (log a) ∷ up log (suc a) k
 abbrev pub down : (ℕ → ℕ) → ℕ → ℕ → List NodeNumber
 down log a zero = []
 down log a (suc k) = node (log (a + k)) ∷ down log a k
+
+pub length-up : (log : ℕ → ℕ) (a k : ℕ) → length (up log a k) ≡ k
+length-up log a zero = refl
+length-up log a (suc k) = ap suc (length-up log (suc a) k)
 
 pub up-more : (log : ℕ → ℕ) (a k : ℕ) → up log a (suc k) ≡ up log a k ++ (node (log (a + k)) ∷ [])
 up-more log a zero = rw add-zero

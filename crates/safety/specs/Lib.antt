@@ -1,7 +1,9 @@
 pub mod Lists
+pub mod Parts
 pub mod Intervals
 pub mod Held
 pub mod Statements
+pub mod Calls
 pub mod Runs
 pub mod Plain
 pub mod Stuck
@@ -9,7 +11,14 @@ pub mod ListMoves
 pub mod Members
 pub mod Registrations
 pub mod Counts
-pub mod Registered
 pub mod Spots
 pub mod Replays
+pub mod ListTests
+pub mod StandingList
+pub mod OneQueueOwner
+pub mod ChangesWithTheWord
+pub mod Phases
+pub mod CallSteps
+pub mod EachCall
 pub mod Theorems
+pub mod WrongRuns

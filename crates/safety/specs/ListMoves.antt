@@ -13,16 +13,18 @@ use Rattle.state.specs.Machine.{threadAt}
 use Rattle.state.specs.declared.answer.Reply.{Reply}
 use Rattle.state.specs.declared.answer.Reply.the-variants.{Accepted, Refused}
 use Rattle.listing.specs.Listing.{Listed, listed}
+use Rattle.standing.specs.Part.{partOf}
 use Rattle.lock.specs.Event.{eventOf}
 use Rattle.promises.specs.Theorems.{changes-little, refusal-changes-nothing}
 use Rattle.lock.specs.Effect.{QueueEffect, stands, registers, setsAside, restores, takesTail, takesAll, completes}
 use Rattle.queue.specs.Updates.{upd, upd-same, upd-other}
 use Rattle.queue.specs.Tickets.{Ghost, Span, Parts, oldest, nothing, whole, rest}
 use Rattle.invariant.specs.Table.{waitOf}
-use Rattle.invariant.specs.Moves.{isAside}
 use Rattle.invariant.specs.Moves.{Moved, AsideAfter}
 use Rattle.invariant.specs.Bridge.{nodeIn}
 use Rattle.invariant.specs.Events.{Ok, Safe, event-safe}
+use Rattle.safety.specs.Lists.{asideOf}
+use Rattle.safety.specs.Parts.{same-part}
 use Rattle.safety.specs.Intervals.{up, up-more, up-same, node-is}
 use Rattle.safety.specs.Held.{queue-is, held-is}
 use Rattle.safety.specs.Statements.{Event, after, effectIn, ListsAfter, Lists, Move}
@@ -130,7 +132,7 @@ module _ (g : Ghost) (wait : ℕ → Bool) (p : Parts g wait) (t : ℕ) where
 
 module _ (m : Machine) (ok : Ok m) where
   abbrev asideNow : ℕ → Bool
-  asideNow u = isAside (threadAt m u .place)
+  asideNow u = asideOf (partOf (threadAt m u .place))
 
   pub lists-of : Lists m
   lists-of = record {
@@ -156,7 +158,7 @@ event-lists m ok e =
     record {
       before = lists-of m ok;
       after = lists-of (after m e) (safe .ok);
-      own = lists-apart (effectIn m e .queue) _ _ _ _ _ _ (safe .moved .1) (held .moves);
+      own = lists-apart (effectIn m e .queue) _ _ _ _ _ _ moved-aside (held .moves);
       others = λ u ne. (ap₂ (λ a l. pick a l []) (same-place u ne) (held .others u ne), ap₂ (λ a l. pick a [] l) (same-place u ne) (held .others u ne));
     }
   where
@@ -166,9 +168,20 @@ event-lists m ok e =
     held : After (ok .ghost) (waitOf (threadAt m) (nodeIn (m .nodes))) (ok .inv .queue .parts) (e .thread .0) (effectIn m e .queue) (event-safe m ok (e .thread) (e .code) .ok .ghost)
     held = lists-after (ok .ghost) _ (ok .inv .queue .parts) (e .thread .0) (effectIn m e .queue) (event-safe m ok (e .thread) (e .code) .ok .ghost) (event-safe m ok (e .thread) (e .code) .moved .0)
 
-    same-place : (u : ℕ) → u ≢ e .thread .0 → isAside (threadAt (after m e) u .place) ≡ isAside (threadAt m u .place)
+    moved-aside : AsideAfter (effectIn m e .queue)
+        (asideNow m ok (e .thread .0)) (asideNow (after m e) (safe .ok) (e .thread .0))
+    moved-aside =
+        rw (
+          ← same-part (threadAt m (e .thread .0) .place) .aside,
+          ← same-part (threadAt (after m e) (e .thread .0) .place) .aside,
+        )
+        (safe .moved .1)
+
+    same-place : (u : ℕ) → u ≢ e .thread .0 → asideNow (after m e) (safe .ok) u ≡ asideNow m ok u
     same-place u ne = by (eventOf m (e .code) (e .thread) .reply) refl
       where
-        by : (r : Reply) → eventOf m (e .code) (e .thread) .reply ≡ r → isAside (threadAt (after m e) u .place) ≡ isAside (threadAt m u .place)
-        by (Accepted a w) f = ap isAside (changes-little m (e .code) (e .thread) a w f .places u ne)
-        by (Refused r) f = ap (λ x. isAside (threadAt x u .place)) (refusal-changes-nothing m (e .code) (e .thread) r f)
+        by : (r : Reply) → eventOf m (e .code) (e .thread) .reply ≡ r
+            → asideNow (after m e) (safe .ok) u ≡ asideNow m ok u
+        by (Accepted a w) f = ap (λ p. asideOf (partOf p)) (changes-little m (e .code) (e .thread) a w f .places u ne)
+        by (Refused r) f =
+            ap (λ x. asideOf (partOf (threadAt x u .place))) (refusal-changes-nothing m (e .code) (e .thread) r f)

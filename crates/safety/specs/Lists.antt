@@ -1,19 +1,22 @@
--- The lists of waiters, read off the machine alone, oldest first: the queue, which is the waiter listing turned round, and what each thread has taken
--- off it. A list is lost where it leaves the range or does not end within the count. Assumes nothing.
+-- The lists of waiters, read off the machine alone, oldest first: the queue, which is the waiter listing turned round,
+-- and what each thread has taken off it, by what its place has to do with the queue (`partOf`, crate standing's table:
+-- what the trace prints is read off the same). A list is lost where it leaves the range or does not end within the
+-- count.
+-- Not here: how the lists change and who is on them (Statements.antt); that none is ever lost (Held.antt).
+-- Assumes nothing.
 use Prim.Native.Nat.{ℕ, zero, suc}
+use mathlib.Core.Bool.{Bool, true, false}
 use mathlib.Core.List.{[], _∷_, reverse}
 use Rattle.word.specs.Base.{pick}
-use Rattle.word.specs.Flags.{toNode}
 use Rattle.word.specs.Number.{isNone}
-use Rattle.word.specs.declared.flags.Word.{Word}
 use Rattle.word.specs.declared.number.NodeNumber.{NodeNumber}
 use Rattle.state.specs.declared.machine.Machine.{Machine}
-use Rattle.state.specs.declared.place.Walk.{Walk}
-use Rattle.state.specs.declared.place.Walk.the-variants.{Queue, ReadUnlock, Downgrade}
 use Rattle.state.specs.declared.place.Place.{Place}
-use Rattle.state.specs.declared.place.Place.the-variants.{Idle, TryReadLoad, TryReadCas, TryWriteOr, ContendLoad, ContendCas, RegisterCas, CompletedLoad, Park, WalkTail, WalkNext, WalkPrev, WalkHead, QueueCas, SplitPrev, SplitStore, SplitCas, SplitRestore, TakeCas, WakePrev, WakeStore, ReadUnlockLoad, ReadUnlockCas, Subtract, WriteUnlockCas, ReleaseCas, DowngradeCas, DowngradeSlowCas}
-use Rattle.invariant.specs.Moves.{isAside}
 use Rattle.listing.specs.Listing.{Listed, lost, listed, prepend, stand, nodeBy, followedOf, listedOf}
+use Rattle.standing.specs.Part.{partOf}
+use Rattle.standing.specs.declared.part.Part.{Part}
+use Rattle.standing.specs.declared.part.Part.the-variants.{Apart, Contending, Waiting, Owning, SettingAside}
+use Rattle.standing.specs.declared.part.Part.the-variants.{Walking, Reading, Completing, Releasing}
 
 abbrev pub turned : Listed → Listed
 turned lost = lost
@@ -28,46 +31,40 @@ unfoldable pub backFrom : ℕ → Machine → NodeNumber → Listed
 backFrom zero m at = pick (isNone at) (listed []) lost
 backFrom (suc left) m at = pick (isNone at) (listed []) (stand m at (backFrom left m (nodeBy m at .prev)))
 
--- a downgrade's walk is over the old queue, which it took: what the listing would read from the word that it saw
-abbrev pub walkedIn : Machine → Walk → Word → Listed
-walkedIn m (Queue _) seen = listed []
-walkedIn m ReadUnlock seen = listed []
-walkedIn m Downgrade seen = turned (followedOf m (toNode seen))
+-- what a thread with this part has taken off, set aside or to be woken: a downgrade's walk is over the old queue, which
+-- it took, so it is what the listing would read from the word that it saw; a waker goes back by prev
+abbrev pub heldBy : Machine → Part → Listed
+heldBy m Apart = listed []
+heldBy m Contending = listed []
+heldBy m Waiting = listed []
+heldBy m (Owning _) = listed []
+heldBy m (SettingAside _ tail) = listed (tail ∷ [])
+heldBy m (Walking head) = turned (followedOf m head)
+heldBy m (Reading _ current) = backFrom (m .count) m current
+heldBy m (Completing _ current prev) = prepend current (backFrom (m .count) m prev)
+heldBy m Releasing = listed []
 
--- what a thread at place p has taken off: set aside, or to be woken
-abbrev pub heldIn : Machine → Place → Listed
-heldIn m Idle = listed []
-heldIn m (TryReadLoad _) = listed []
-heldIn m (TryReadCas _ _) = listed []
-heldIn m (TryWriteOr _) = listed []
-heldIn m (ContendLoad _ _) = listed []
-heldIn m (ContendCas _ _ _) = listed []
-heldIn m (RegisterCas _ _ _) = listed []
-heldIn m (CompletedLoad _) = listed []
-heldIn m (Park _) = listed []
-heldIn m (WalkTail walk seen _) = walkedIn m walk seen
-heldIn m (WalkNext walk seen _) = walkedIn m walk seen
-heldIn m (WalkPrev walk seen _ _) = walkedIn m walk seen
-heldIn m (WalkHead walk seen _) = walkedIn m walk seen
-heldIn m (QueueCas _ _) = listed []
-heldIn m (SplitPrev _ _ _) = listed []
-heldIn m (SplitStore _ _ _ _) = listed []
-heldIn m (SplitCas _ _ tail) = listed (tail ∷ [])
-heldIn m (SplitRestore _ _ tail _) = listed (tail ∷ [])
-heldIn m (TakeCas _ _ _) = listed []
-heldIn m (WakePrev _ current) = backFrom (m .count) m current
-heldIn m (WakeStore _ current prev) = prepend current (backFrom (m .count) m prev)
-heldIn m ReadUnlockLoad = listed []
-heldIn m (ReadUnlockCas _) = listed []
-heldIn m (Subtract _ _) = listed []
-heldIn m WriteUnlockCas = listed []
-heldIn m (ReleaseCas _) = listed []
-heldIn m DowngradeCas = listed []
-heldIn m (DowngradeSlowCas _) = listed []
+-- from the store of prev in the head until the compare succeeds or the old tail is restored, that is set aside
+abbrev pub asideOf : Part → Bool
+asideOf Apart = false
+asideOf Contending = false
+asideOf Waiting = false
+asideOf (Owning _) = false
+asideOf (SettingAside _ _) = true
+asideOf (Walking _) = false
+asideOf (Reading _ _) = false
+asideOf (Completing _ _ _) = false
+asideOf Releasing = false
+
+abbrev pub asideBy : Machine → Part → Listed
+asideBy m part = pick (asideOf part) (heldBy m part) (listed [])
+
+abbrev pub wakesBy : Machine → Part → Listed
+wakesBy m part = pick (asideOf part) (listed []) (heldBy m part)
 
 -- so it is on the thread's set-aside list, or on its waker's list
 abbrev pub asideIn : Machine → Place → Listed
-asideIn m p = pick (isAside p) (heldIn m p) (listed [])
+asideIn m p = asideBy m (partOf p)
 
 abbrev pub wakesIn : Machine → Place → Listed
-wakesIn m p = pick (isAside p) (listed []) (heldIn m p)
+wakesIn m p = wakesBy m (partOf p)

@@ -30,7 +30,8 @@ use Rattle.invariant.specs.Table.{about, Lock, Free, Allowed}
 use Rattle.invariant.specs.Invariant.{readers, writers, leavers, Unqueued, empty, written, read, Locked, by-writer, by-readers, by-leaver, Inv}
 use Rattle.invariant.specs.Bridge.{lockOf}
 use Rattle.invariant.specs.Events.{Ok, event-safe}
-use Rattle.safety.specs.Statements.{Event, after, effectIn, ran, holdersOf, Allows, Plainly, Whose, nobodys, readers as readersHold, writers as writersHold}
+use Rattle.safety.specs.Statements.{Event, after, effectIn, ranBy, ran, holdersOf, Allows, Plainly}
+use Rattle.safety.specs.Statements.{Whose, nobodys, readers as readersHold, writers as writersHold}
 
 -- ── what is held, by its numbers ──
 
@@ -245,7 +246,7 @@ module _ (m : Machine) (ok : Ok m) (e : Event) where
       by releasesWrite a z = (writes-is _ a, all-hold Nothing z)
       by downgrades a z = (writes-is _ a, all-hold Read z)
 
-pub run-allowed : (m : Machine) → Ok m → (es : List Event) → Plainly (holdersOf m) m es (holdersOf (ran m es))
-unfolding Plainly ran
+pub run-allowed : (m : Machine) → Ok m → (es : List Event) → Plainly eventOf (holdersOf m) m es (holdersOf (ran m es))
+unfolding Plainly ranBy
 run-allowed m ok [] = refl
 run-allowed m ok (e ∷ es) = (holdersOf (after m e), event-allowed m ok e, run-allowed (after m e) (event-safe m ok (e .thread) (e .code) .ok) es)

@@ -10,6 +10,7 @@ use Rattle.word.specs.declared.number.NodeNumber.{NodeNumber}
 use Rattle.state.specs.Machine.{threadAt}
 use Rattle.state.specs.declared.machine.Machine.{Machine}
 use Rattle.lock.specs.Effect.{QueueEffect, stands, registers, setsAside, restores, takesTail, takesAll, completes}
+use Rattle.lock.specs.Event.{eventOf}
 use Rattle.listing.specs.Listing.{listed, waitersBy}
 use Rattle.queue.specs.Updates.{upd, upd-same, upd-other}
 use Rattle.queue.specs.Tickets.{Ghost, live-queue}
@@ -20,7 +21,8 @@ use Rattle.invariant.specs.Events.{Ok, event-safe}
 use Rattle.safety.specs.Intervals.{down, down-same, node-is}
 use Rattle.safety.specs.Held.{listing-is}
 use Rattle.safety.specs.Members.{no-repeats, take-down}
-use Rattle.safety.specs.Statements.{Event, after, effectIn, ran, registering, registrations, NoRepeats, Listing}
+use Rattle.safety.specs.Statements.{Event, after, effectIn, ranBy, ran, registering, registrations}
+use Rattle.safety.specs.Statements.{NoRepeats, Listing}
 
 -- all tickets ever, newest first
 abbrev logged : Ghost → List NodeNumber
@@ -47,8 +49,9 @@ pub record Made (m : Machine) (made : List NodeNumber) : Type 0 where
   pub ok : Ok m
   pub is : made ≡ logged (ok .ghost)
 
-pub made-in : (m : Machine) (made : List NodeNumber) → Made m made → (es : List Event) → Made (ran m es) (registrations m es made)
-unfolding ran registrations
+pub made-in : (m : Machine) (made : List NodeNumber) → Made m made → (es : List Event)
+    → Made (ran m es) (registrations eventOf m es made)
+unfolding ranBy registrations
 made-in m made r [] = r
 made-in m made r (e ∷ es) =
     let safe = event-safe m (r .ok) (e .thread) (e .code) in

@@ -12,6 +12,8 @@ use Rattle.word.specs.declared.number.NodeNumber.{NodeNumber}
 use Rattle.state.specs.Machine.{threadAt}
 use Rattle.state.specs.declared.machine.Machine.{Machine}
 use Rattle.listing.specs.Listing.{Listed, listed}
+use Rattle.standing.specs.Part.{partOf}
+use Rattle.standing.specs.declared.part.Part.{Part}
 use Rattle.queue.specs.Tests.{never}
 use Rattle.queue.specs.Tickets.{Ghost, Held, Somewhere}
 use Rattle.invariant.specs.Table.{waitOf}
@@ -19,12 +21,11 @@ use Rattle.invariant.specs.Beside.{inside}
 use Rattle.invariant.specs.Wake.{Waiter-of, waiter-of}
 use Rattle.invariant.specs.Bridge.{nodeIn, lockOf}
 use Rattle.invariant.specs.Events.{Ok}
-use Rattle.invariant.specs.Moves.{isAside}
-use Rattle.safety.specs.Lists.{heldIn}
+use Rattle.safety.specs.Lists.{heldBy, asideOf}
 use Rattle.safety.specs.Intervals.{node-is}
 use Rattle.safety.specs.Held.{listing-is, held-is}
 use Rattle.safety.specs.Members.{Among, in-down, in-up, down-in, up-in}
-use Rattle.safety.specs.Registered.{registered-same}
+use Rattle.safety.specs.Parts.{same-part}
 use Rattle.safety.specs.Statements.{Waiter, Waits, Spot, queue, aside, waker, In, At, OneSpot}
 
 -- a node that waits is a waiter's
@@ -34,7 +35,7 @@ waiter-is m ok k w = (
   ap node (sym (w .node) ∙ sym (add-one (w .thread))),
   record {
     below = inside (m .count) (lockOf m) (ok .ghost) (ok .inv) (w .thread) (λ a. a .registered) refl (w .registered);
-    registered = sym (registered-same (threadAt m (w .thread) .place)) ∙ w .registered;
+    registered = sym (same-part (threadAt m (w .thread) .place) .registered) ∙ w .registered;
     uncompleted = ap (λ j. lockOf m .nd j .completed) (w .node) ∙ w .open-node;
   },
 )
@@ -61,11 +62,14 @@ module _ (m : Machine) (ok : Ok m) where
   abbrev wait : ℕ → Bool
   wait = waitOf (threadAt m) (nodeIn (m .nodes))
 
-  is-aside : (k : NodeNumber) (t : ℕ) → At m k (aside t) → (isAside (threadAt m t .place) ≡ true) × In k (heldIn m (threadAt m t .place))
-  is-aside k t i = of-aside k (isAside (threadAt m t .place)) (heldIn m (threadAt m t .place)) i
+  abbrev part : ℕ → Part
+  part u = partOf (threadAt m u .place)
 
-  is-waker : (k : NodeNumber) (t : ℕ) → At m k (waker t) → (isAside (threadAt m t .place) ≡ false) × In k (heldIn m (threadAt m t .place))
-  is-waker k t i = of-waker k (isAside (threadAt m t .place)) (heldIn m (threadAt m t .place)) i
+  is-aside : (k : NodeNumber) (t : ℕ) → At m k (aside t) → (asideOf (part t) ≡ true) × In k (heldBy m (part t))
+  is-aside k t i = of-aside k (asideOf (part t)) (heldBy m (part t)) i
+
+  is-waker : (k : NodeNumber) (t : ℕ) → At m k (waker t) → (asideOf (part t) ≡ false) × In k (heldBy m (part t))
+  is-waker k t i = of-waker k (asideOf (part t)) (heldBy m (part t)) i
 
   -- a node at a spot has a ticket of its owner's
   record Ticketed (k : NodeNumber) (o : ℕ) : Type 0 where
@@ -73,7 +77,7 @@ module _ (m : Machine) (ok : Ok m) where
     pub held : Held g wait o ticket
     pub node : g .log ticket ≡ k .0
 
-  in-held : (k : NodeNumber) (t : ℕ) → In k (heldIn m (threadAt m t .place)) → Ticketed k (suc t)
+  in-held : (k : NodeNumber) (t : ℕ) → In k (heldBy m (part t)) → Ticketed k (suc t)
   in-held k t i =
       let y : Among (g .log) (g .taken t .beg) (g .taken t .end - g .taken t .beg) k = in-up (g .log) (g .taken t .beg) (g .taken t .end - g .taken t .beg) k (subst (In k) (held-is m ok t) i) in
       record { ticket = y .ticket; held = ok .inv .queue .parts .held t (y .ticket) (y .low) (omega (arith, y .low, y .high)) .1; node = y .node }
@@ -98,30 +102,36 @@ module _ (m : Machine) (ok : Ok m) where
   same-spot k queue (waker u) a b e = absurd (omega arith)
   same-spot k (aside t) queue a b e = absurd (omega arith)
   same-spot k (aside t) (aside u) a b e = let z : t ≡ u = omega arith in ap aside z
-  same-spot k (aside t) (waker u) a b e = let z : t ≡ u = omega arith in never (subst (λ v. isAside (threadAt m v .place) ≡ false) (sym z) (is-waker k u b .0)) (is-aside k t a .0)
+  same-spot k (aside t) (waker u) a b e =
+      let z : t ≡ u = omega arith in
+      never (subst (λ v. asideOf (part v) ≡ false) (sym z) (is-waker k u b .0)) (is-aside k t a .0)
   same-spot k (waker t) queue a b e = absurd (omega arith)
-  same-spot k (waker t) (aside u) a b e = let z : t ≡ u = omega arith in never (is-waker k t a .0) (subst (λ v. isAside (threadAt m v .place) ≡ true) (sym z) (is-aside k u b .0))
+  same-spot k (waker t) (aside u) a b e =
+      let z : t ≡ u = omega arith in
+      never (is-waker k t a .0) (subst (λ v. asideOf (part v) ≡ true) (sym z) (is-aside k u b .0))
   same-spot k (waker t) (waker u) a b e = let z : t ≡ u = omega arith in ap waker z
 
   -- the spot of a waiter
   found : (k : NodeNumber) → (g .log (g .tk (k .0)) ≡ k .0) → Somewhere g (g .tk (k .0)) → (s : Spot) × At m k s
   found k e (inl x) = (queue, subst (In k) (sym (listing-is m ok)) (down-in (g .log) (g .lo) (g .hi - g .lo) (g .tk (k .0)) k (x .0) (omega arith) (node-is k (g .log (g .tk (k .0))) (sym e))))
-  found k e (inr x) = by (isAside (threadAt m (x .0) .place)) refl
+  found k e (inr x) = by (asideOf (part (x .0))) refl
     where
-      there : In k (heldIn m (threadAt m (x .0) .place))
+      there : In k (heldBy m (part (x .0)))
       there =
           subst (In k) (sym (held-is m ok (x .0)))
           (up-in (g .log) (g .taken (x .0) .beg) (g .taken (x .0) .end - g .taken (x .0) .beg) (g .tk (k .0)) k (x .1) (omega (arith, x .1, x .2)) (node-is k (g .log (g .tk (k .0))) (sym e)))
 
-      by : (b : Bool) → isAside (threadAt m (x .0) .place) ≡ b → (s : Spot) × At m k s
-      by true z = (aside (x .0), subst (λ a. In k (pick a (heldIn m (threadAt m (x .0) .place)) (listed []))) (sym z) there)
-      by false z = (waker (x .0), subst (λ a. In k (pick a (listed []) (heldIn m (threadAt m (x .0) .place)))) (sym z) there)
+      by : (b : Bool) → asideOf (part (x .0)) ≡ b → (s : Spot) × At m k s
+      by true z = (aside (x .0), subst (λ a. In k (pick a (heldBy m (part (x .0))) (listed []))) (sym z) there)
+      by false z = (waker (x .0), subst (λ a. In k (pick a (listed []) (heldBy m (part (x .0))))) (sym z) there)
 
   pub one-spot : (t : ℕ) → Waiter m t → OneSpot m (nodeOf (thread t))
   one-spot t w = by (found (nodeOf (thread t)) (covered .0) (covered .1))
     where
       waits : wait (t + 1) ≡ true
-      waits = subst (λ j. wait j ≡ true) (sym (add-one t)) (rw (registered-same (threadAt m t .place) ∙ w .registered, w .uncompleted) refl)
+      waits =
+          subst (λ j. wait j ≡ true) (sym (add-one t))
+          (rw (same-part (threadAt m t .place) .registered ∙ w .registered, w .uncompleted) refl)
 
       covered : (g .log (g .tk (t + 1)) ≡ t + 1) × Somewhere g (g .tk (t + 1))
       covered = ok .inv .queue .parts .cover (t + 1) waits

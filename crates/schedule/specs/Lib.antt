@@ -9,3 +9,4 @@ pub mod Beginnings
 pub mod Theorems
 pub mod Judged
 pub mod Determined
+pub mod WrongReplay
