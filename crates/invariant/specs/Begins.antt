@@ -1,4 +1,5 @@
--- Beginning a call keeps the invariant: the thread stands idle, and holds what the call's first place allows. Assumes nothing.
+-- Beginning a call keeps the invariant: the thread stands idle, and holds what the call's first place allows.
+-- Assumes nothing.
 use Prim.Native.Nat.{ℕ, _<_}
 use mathlib.Core.Bool.{true, false}
 use mathlib.Core.Path.{_≡_, refl, ap}
@@ -7,7 +8,8 @@ use Rattle.state.specs.declared.holding.Holding.the-variants.{Nothing, Read, Wr
 use Rattle.state.specs.declared.place.Place.the-variants.{Idle}
 use Rattle.lock.specs.Begin.{firstPlace, holdsNothing, mayBegin}
 use Rattle.lock.specs.declared.code.Call.{Call}
-use Rattle.lock.specs.declared.code.Call.the-variants.{Read as ToRead, Write as ToWrite, TryRead, TryWrite, ReadUnlock, WriteUnlock, Downgrade}
+use Rattle.lock.specs.declared.code.Call.the-variants.{Read as ToRead, Write as ToWrite, TryRead, TryWrite, ReadUnlock}
+use Rattle.lock.specs.declared.code.Call.the-variants.{WriteUnlock, Downgrade}
 use Rattle.queue.specs.Tests.{never}
 use Rattle.queue.specs.Tickets.{Ghost}
 use Rattle.invariant.specs.Table.{any, off, about, Lock, aboutAt, Free, Reads, Writes, Allowed}
@@ -59,9 +61,11 @@ first ReadUnlock h e = record { off = is-off _ _ _ _; allowed = read-held h e; n
 first WriteUnlock h e = record { off = is-off _ _ _ _; allowed = write-held h e; needs = refl; leaves = refl }
 first Downgrade h e = record { off = is-off _ _ _ _; allowed = write-held h e; needs = refl; leaves = refl }
 
-pub begins : (n : ℕ) (s : Lock) (g : Ghost) (i : Inv n s g) (t : ℕ) → t < n → s .th t .place ≡ Idle → (call : Call)
-    → mayBegin call (s .th t .holding) ≡ true → Inv n (moved s t (s .word) (placed (s .th t) (firstPlace call)) (s .nd)) g
-begins n s g i t tin here call e =
+pub begins : {n : ℕ} {s : Lock} {g : Ghost} (i : Inv n s g) (t : ℕ) → t < n → s .th t .place ≡ Idle → (call : Call)
+    → mayBegin call (s .th t .holding) ≡ true
+    → Inv n (moved s t (s .word) (placed (s .th t) (firstPlace call)) (s .nd)) g
+begins {s} i t tin here call e =
     let f : First call (s .th t .holding) = first call (s .th t .holding) e in
     let is : aboutAt s t ≡ off any false false false = ap about here in
-    hop n s g i t tin (off-down n s g i t (rw is (is-off _ _ _ _))) (firstPlace call) (f .off) (f .allowed) (never (f .needs)) (rw (f .leaves, is)) (rw is (never refl))
+    hop i t tin (off-down i t (rw is (is-off _ _ _ _))) (firstPlace call) (f .off) (f .allowed) (never (f .needs))
+    (rw (f .leaves, is)) (rw is (never refl))

@@ -1,4 +1,5 @@
--- A fresh machine has the invariant: nobody waits, nothing is held. Assumes nothing.
+-- A fresh machine has the invariant: nobody waits, nothing is held.
+-- Assumes nothing.
 use Prim.Native.Nat.{ℕ, zero, suc}
 use mathlib.Core.Bool.{false}
 use mathlib.Core.Path.{_≡_, refl}

@@ -1,9 +1,10 @@
--- Moves of a thread off the queue: `hop`, on without a change of what is shared; `finish`, the end of a call by a change of the
--- word's LOCKED, DOWNGRADED or readers' count, with the queue as it was. Assumes nothing.
+-- Moves of a thread off the queue: `hop`, on without a change of what is shared; `finish`, the end of a call by a
+-- change of the word's LOCKED, DOWNGRADED or readers' count, with the queue as it was.
+-- Assumes nothing.
 use Prim.Native.Nat.{ℕ, _+_, _<_}
 use mathlib.Core.Bool.{Bool, true, false}
 use mathlib.Core.Logic.{_≢_}
-use mathlib.Core.Path.{_≡_, refl, sym, ap, _∙_, subst}
+use mathlib.Core.Path.{_≡_, refl, sym, ap, _∙_}
 use native.Mathlib.Omega.{arith}
 use Rattle.word.specs.Flags.{locked, queued, queueLocked, downgraded, toNode}
 use Rattle.word.specs.declared.flags.Word.{Word}
@@ -13,13 +14,12 @@ use Rattle.state.specs.declared.machine.Thread.{Thread}
 use Rattle.state.specs.declared.place.Place.{Place}
 use Rattle.state.specs.declared.place.Place.the-variants.{Idle}
 use Rattle.queue.specs.Tests.{never}
-use Rattle.queue.specs.Updates.{upd}
 use Rattle.queue.specs.Tickets.{Ghost}
 use Rattle.queue.specs.Roles.{none, filled}
 use Rattle.queue.specs.Invariant as Q
-use Rattle.invariant.specs.Table.{May, About, off, about, Lock, aboutAt, linksOf, waitOf, Allowed, leaver}
-use Rattle.invariant.specs.Invariant.{readers, writers, leavers, Count, Real, Newest, queueOf, Inv}
-use Rattle.invariant.specs.Frames.{moved, waits-as, view, summed, land, stay}
+use Rattle.invariant.specs.Table.{May, About, off, about, Lock, aboutAt, Allowed, leaver}
+use Rattle.invariant.specs.Invariant.{readers, writers, leavers, Count, Real, queueOf, Inv}
+use Rattle.invariant.specs.Frames.{moved, summed, land, stay, shown-still, same-newest}
 use Rattle.invariant.specs.Kept.{placed}
 
 -- what is told of a place off the queue
@@ -32,27 +32,31 @@ pub record Off (a : About) : Type 0 where
   pub ok : a .ok ≡ true
 
 pub is-off : (may : May) (leaves needsQueue contends : Bool) → Off (off may leaves needsQueue contends)
-is-off may leaves needsQueue contends = record { role = refl; owner = refl; reader = refl; registered = refl; asleep = refl; ok = refl }
+is-off may leaves needsQueue
+    contends = record { role = refl; owner = refl; reader = refl; registered = refl; asleep = refl; ok = refl }
 
 -- thread t owns nothing of the queue, and its role may be put down
 pub record Down (s : Lock) (g : Ghost) (t : ℕ) : Type 0 where
   pub owner : aboutAt s t .owner ≡ false
   pub registered : aboutAt s t .registered ≡ false
-  pub role : Q.Inv g (Q.moved (queueOf s) t (linksOf (s .nd)) (waitOf (s .th) (s .nd)) none)
+  pub role : Q.Inv g (Q.turned (queueOf s) t none)
 
-pub off-down : (n : ℕ) (s : Lock) (g : Ghost) (i : Inv n s g) (t : ℕ) → Off (aboutAt s t) → Down s g t
-off-down n s g i t o = record { owner = o .owner; registered = o .registered; role = Q.turn g (queueOf s) (i .queue) t none (rw (o .role) at (i .queue .know t)) (never refl) }
+pub off-down : {n : ℕ} {s : Lock} {g : Ghost} (i : Inv n s g) (t : ℕ) → Off (aboutAt s t) → Down s g t
+off-down {s} {g} i t
+    o = record {
+      owner = o .owner;
+      registered = o .registered;
+      role = Q.turn g (queueOf s) (i .queue) t none (rw (o .role) at (i .queue .know t)) (never refl);
+    }
 
-module _ (n : ℕ) (s : Lock) (g : Ghost) (i : Inv n s g) (t : ℕ) (tin : t < n) (o : Down s g t) where
+module _ {n : ℕ} {s : Lock} {g : Ghost} (i : Inv n s g) (t : ℕ) (tin : t < n) (o : Down s g t) where
   -- the queue's view where the thread goes on off the queue
   pub queue-off : (w : Word) (x : Thread) → Off (about (x .place)) → Q.Inv g (queueOf (moved s t w x (s .nd)))
-  queue-off w x o′ = subst (λ z. Q.Inv g z) (sym (view s t x (s .nd) w (linksOf (s .nd)) (waitOf (s .th) (s .nd)) refl same)) (rw (o′ .role) (o .role))
-    where
-      same : waitOf (upd (s .th) t x) (s .nd) ≡ waitOf (s .th) (s .nd)
-      same = waits-as s t x (s .nd) (waitOf (s .th) (s .nd)) refl (rw (o′ .registered, o .registered)) (λ u ne. refl)
+  queue-off w x o′ = shown-still s t x w (rw (o′ .registered, o .registered)) (rw (o′ .role) (o .role))
 
   -- on to another place, with the word as it is
-  pub hop : (p : Place) → Off (about p) → Allowed (about p .may) (s .th t .holding) → (about p .needsQueue ≡ true → queued (s .word) ≡ true)
+  pub hop : (p : Place) → Off (about p) → Allowed (about p .may) (s .th t .holding)
+      → (about p .needsQueue ≡ true → queued (s .word) ≡ true)
       → leaver (placed (s .th t) p) ≡ leaver (s .th t) → (aboutAt s t .contends ≡ true → about p .contends ≡ true) →
       Inv n (moved s t (s .word) (placed (s .th t) p) (s .nd)) g
   hop p o′ may needs leaving contending = stay n s g t (placed (s .th t) p) (s .nd) i (record {
@@ -82,18 +86,22 @@ module _ (n : ℕ) (s : Lock) (g : Ghost) (i : Inv n s g) (t : ℕ) (tin : t < n
     pub handed : queued w ≡ true → downgraded w ≡ true → (queueLocked w ≡ true) × (locked w ≡ true)
     pub bare : queued w ≡ false → downgraded w ≡ false
     pub plain : (u : ℕ) → u ≢ t → aboutAt s u .reader ≡ true → downgraded w ≡ false
-    pub count : (r v l : ℕ) → r + readsOf (s .th t .holding) ≡ readers n s + readsOf h → v + writesOf (s .th t .holding) ≡ writers n s + writesOf h
+    pub count : (r v l : ℕ) → r + readsOf (s .th t .holding) ≡ readers n s + readsOf h
+        → v + writesOf (s .th t .holding) ≡ writers n s + writesOf h
         → l + leaver (s .th t) ≡ leavers n s → Count w r v l
-    pub unreal : queued w ≡ true → downgraded w ≡ false → (r : ℕ) → r + readsOf (s .th t .holding) ≡ readers n s + readsOf h → r ≡ 0
+    pub unreal : queued w ≡ true → downgraded w ≡ false → (r : ℕ)
+        → r + readsOf (s .th t .holding) ≡ readers n s + readsOf h → r ≡ 0
     pub seen-to : queued w ≡ true → locked w ≡ false → queueLocked w ≡ false → ⊥
 
   abbrev pub idle : Holding → Thread
   idle h = record { place = Idle; token = s .th t .token; holding = h }
 
   pub finish : (w : Word) (h : Holding) → Ended w h → Inv n (moved s t w (idle h) (s .nd)) g
-  finish w h c = land n s g g t w (idle h) (s .nd) i (record {
+  finish w h c = land i g t w (idle h) (s .nd) (record {
     queue = queue-off w (idle h) (is-off _ _ _ _);
-    newest = λ e. let v : Newest g (s .word) = i .newest (sym (c .same-queue) ∙ e) in record { ticket = v .ticket; last = v .last; some = v .some; node = v .node ∙ ap (λ z. z .0) (sym (c .same-node (sym (c .same-queue) ∙ e))) };
+    newest = λ e.
+        let q : queued (s .word) ≡ true = sym (c .same-queue) ∙ e in
+        same-newest w (c .same-node q) (i .newest q);
     nobody = λ e. i .nobody (sym (c .same-queue) ∙ e);
     handed = c .handed;
     bare = λ e. (c .same-owner ∙ i .bare (sym (c .same-queue) ∙ e) .0, c .bare e);
@@ -117,4 +125,10 @@ module _ (n : ℕ) (s : Lock) (g : Ghost) (i : Inv n s g) (t : ℕ) (tin : t < n
   })
     where
       unreal : Real n (moved s t w (idle h) (s .nd)) → ⊥
-      unreal r = omega (arith, r .some, c .unreal (r .queue) (r .plain) (readers n (moved s t w (idle h) (s .nd))) (summed s t (idle h) (s .nd) n tin (λ y. readsOf (y .holding))))
+      unreal r =
+          omega (
+            arith,
+            r .some,
+            c .unreal (r .queue) (r .plain) (readers n (moved s t w (idle h) (s .nd)))
+                (summed s t (idle h) (s .nd) n tin (λ y. readsOf (y .holding))),
+          )

@@ -1,8 +1,10 @@
--- Moves of a thread on the queue, or on what it has taken off: `stroll`, on without a change of the word, of tickets or of what it holds. Assumes nothing.
+-- Moves of a thread on the queue, or on what it has taken off: `stroll`, on without a change of the word, of tickets
+-- or of what it holds.
+-- Assumes nothing.
 use Prim.Native.Nat.{ℕ, suc, _<_}
 use mathlib.Core.Bool.{Bool, true, false}
 use mathlib.Core.Logic.{inl}
-use mathlib.Core.Path.{_≡_, refl, sym, _∙_, subst}
+use mathlib.Core.Path.{_≡_, refl, sym, _∙_}
 use Rattle.word.specs.declared.flags.Word.{Word}
 use Rattle.word.specs.declared.number.NodeNumber.{NodeNumber}
 use Rattle.state.specs.Node.{withPrev, withTail}
@@ -12,15 +14,18 @@ use Rattle.state.specs.declared.place.Place.{Place}
 use Rattle.state.specs.declared.place.Walk.{Walk}
 use Rattle.state.specs.declared.place.Who.{Who}
 use Rattle.queue.specs.Tests.{never}
-use Rattle.queue.specs.Updates.{upd, upd-cases, map-upd, map-keep}
+use Rattle.queue.specs.Updates.{upd, upd-cases, map-upd, map-keep, upd-same}
 use Rattle.queue.specs.Tickets.{Ghost}
 use Rattle.queue.specs.Queue.{Links, setPv, setTl}
-use Rattle.queue.specs.Roles.{Role, filled}
+use Rattle.queue.specs.Roles.{Role, filled, Kind, public, none, walk}
 use Rattle.queue.specs.Invariant as Q
-use Rattle.invariant.specs.Table.{handsOff, About, walking, owning, waking, about, Lock, aboutAt, linksOf, waitOf, Allowed}
-use Rattle.invariant.specs.Invariant.{Real, queueOf, Inv}
-use Rattle.invariant.specs.Frames.{moved, waits-as, view, stay}
+use Rattle.queue.specs.Walking
+use Rattle.invariant.specs.Table.{handsOff, About, walking, owning, waking, about, Lock, aboutAt, linksOf, waitOf}
+use Rattle.invariant.specs.Table.{Allowed, lookKind, roleOf}
+use Rattle.invariant.specs.Invariant.{Real, queueOf, Inv, Newest}
+use Rattle.invariant.specs.Frames.{moved, waits-as, stay, shown}
 use Rattle.invariant.specs.Kept.{placed}
+use Rattle.word.specs.Flags.{toNode}
 
 -- ── places alike but for what is known of the queue ──
 
@@ -36,14 +41,52 @@ pub record Alike (a b : About) : Type 0 where
   pub needsQueue : b .needsQueue ≡ false
   pub contends : b .contends ≡ a .contends
 
-pub alike-walk : (k : Walk) (seen seen′ : Word) (r r′ : Role) → filled r′ ≡ false → Alike (walking k seen r) (walking k seen′ r′)
-alike-walk k seen seen′ r r′ f = record { unfilled = f; owner = refl; reader = refl; registered = refl; asleep = refl; may = λ h a. a; ok = refl; leaves = refl; needsQueue = refl; contends = refl }
+pub alike-walk : (k : Walk) (seen seen′ : Word) (r r′ : Role) → filled r′ ≡ false
+    → Alike (walking k seen r) (walking k seen′ r′)
+alike-walk k seen seen′ r r′
+    f = record {
+      unfilled = f;
+      owner = refl;
+      reader = refl;
+      registered = refl;
+      asleep = refl;
+      may = λ h a. a;
+      ok = refl;
+      leaves = refl;
+      needsQueue = refl;
+      contends = refl;
+    }
 
-pub alike-own : (who : Who) (seen seen′ : Word) (r r′ : Role) (ok ok′ : Bool) → filled r′ ≡ false → ok′ ≡ true → Alike (owning who seen r ok) (owning who seen′ r′ ok′)
-alike-own who seen seen′ r r′ ok ok′ f e = record { unfilled = f; owner = refl; reader = refl; registered = refl; asleep = refl; may = λ h a. a; ok = e; leaves = refl; needsQueue = refl; contends = refl }
+pub alike-own : (who : Who) (seen seen′ : Word) (r r′ : Role) (ok ok′ : Bool) → filled r′ ≡ false → ok′ ≡ true
+    → Alike (owning who seen r ok) (owning who seen′ r′ ok′)
+alike-own who seen seen′ r r′ ok ok′ f
+    e = record {
+      unfilled = f;
+      owner = refl;
+      reader = refl;
+      registered = refl;
+      asleep = refl;
+      may = λ h a. a;
+      ok = e;
+      leaves = refl;
+      needsQueue = refl;
+      contends = refl;
+    }
 
 pub alike-wake : (who : Who) (r r′ : Role) → filled r′ ≡ false → Alike (waking who r) (waking who r′)
-alike-wake who r r′ f = record { unfilled = f; owner = refl; reader = refl; registered = refl; asleep = refl; may = λ h a. a; ok = refl; leaves = refl; needsQueue = refl; contends = refl }
+alike-wake who r r′
+    f = record {
+      unfilled = f;
+      owner = refl;
+      reader = refl;
+      registered = refl;
+      asleep = refl;
+      may = λ h a. a;
+      ok = refl;
+      leaves = refl;
+      needsQueue = refl;
+      contends = refl;
+    }
 
 -- ── a store of a link changes neither completed nor next ──
 
@@ -80,17 +123,20 @@ module _ (nd : ℕ → Node) (k : ℕ) (z : NodeNumber) where
 
 -- ── on ──
 
-module _ (n : ℕ) (s : Lock) (g : Ghost) (i : Inv n s g) (t : ℕ) (tin : t < n) (p : Place) (a : Alike (aboutAt s t) (about p)) (nd : ℕ → Node) (l : Links) (k : Linked (s .nd) nd l) where
+module _ {n : ℕ} {s : Lock} {g : Ghost} (i : Inv n s g) (t : ℕ) (tin : t < n) (p : Place)
+    (a : Alike (aboutAt s t) (about p)) (nd : ℕ → Node) (l : Links) (k : Linked (s .nd) nd l) where
   pub waits-alike : waitOf (upd (s .th) t (placed (s .th t) p)) nd ≡ waitOf (s .th) (s .nd)
-  waits-alike = waits-as s t (placed (s .th t) p) nd (waitOf (s .th) (s .nd)) refl (rw (a .registered, k .completed (suc t))) (λ u ne. rw (k .completed (suc u)))
+  waits-alike =
+      waits-as s t (placed (s .th t) p) nd (waitOf (s .th) (s .nd)) refl (rw (a .registered, k .completed (suc t)))
+      (λ u ne. rw (k .completed (suc u)))
 
   -- the queue's step is the lock's
-  pub seen-as : (g′ : Ghost) (w : Word) → Q.Inv g′ (Q.moved (queueOf s) t l (waitOf (s .th) (s .nd)) (about p .role))
+  pub seen-as : (g′ : Ghost) (w : Word) → Q.Inv g′ (Q.relinked (queueOf s) t l (about p .role))
       → Q.Inv g′ (queueOf (moved s t w (placed (s .th t) p) nd))
-  seen-as g′ w q = subst (λ z. Q.Inv g′ z) (sym (view s t (placed (s .th t) p) nd w l (waitOf (s .th) (s .nd)) (k .links) waits-alike)) q
+  seen-as g′ w q = shown s t (placed (s .th t) p) nd w l (waitOf (s .th) (s .nd)) (k .links) waits-alike q
 
   pub stroll : (Real n s → about p .owner ≡ true → handsOff (about p .seen) ≡ true)
-      → Q.Inv g (Q.moved (queueOf s) t l (waitOf (s .th) (s .nd)) (about p .role)) → Inv n (moved s t (s .word) (placed (s .th t) p) nd) g
+      → Q.Inv g (Q.relinked (queueOf s) t l (about p .role)) → Inv n (moved s t (s .word) (placed (s .th t) p) nd) g
   stroll calm q = stay n s g t (placed (s .th t) p) nd i (record {
     queue = seen-as g (s .word) q;
     inside = tin;
@@ -109,3 +155,16 @@ module _ (n : ℕ) (s : Lock) (g : Ghost) (i : Inv n s g) (t : ℕ) (tin : t < n
     contending = λ e. a .contends ∙ e;
     called = λ e d. inl (a .registered ∙ e, k .completed (suc t) ∙ d);
   })
+
+-- ── a walk begins at the newest ticket's node ──
+
+pub public-look : (c : Bool) → public (lookKind c) ≡ true
+public-look true = refl
+public-look false = refl
+
+pub begun-at : (s : Lock) (t : ℕ) (wait : ℕ → Bool) {g : Ghost} {w : Word} (k : Kind) → public k ≡ true → Newest g w
+    → Q.Inv g (Q.moved (queueOf s) t (linksOf (s .nd)) wait none)
+    → Q.Inv g (Q.moved (queueOf s) t (linksOf (s .nd)) wait (walk k (toNode w .0) (toNode w .0)))
+begun-at s t wait {w} k p v down =
+    rw Q.moved-twice at (Walking.begin down t k p (toNode w .0) (v .ticket) (upd-same (roleOf (s .th)) t none) (v .last)
+    (v .some) (v .node))

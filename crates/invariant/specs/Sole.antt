@@ -1,4 +1,5 @@
--- Where a writer holds, or a last reader leaves, nobody else holds, and the word says so. Assumes nothing.
+-- Where a writer holds, or a last reader leaves, nobody else holds, and the word says so.
+-- Assumes nothing.
 use Prim.Native.Nat.{ℕ, _+_, _≤_}
 use mathlib.Core.Bool.{Bool, true, false}
 use mathlib.Core.Path.{_≡_, refl}
@@ -7,22 +8,33 @@ use Rattle.word.specs.Flags.{LOCKED, locked, queued, downgraded}
 use Rattle.queue.specs.Tests.{not-true, not-false}
 use Rattle.queue.specs.Tickets.{Ghost}
 use Rattle.invariant.specs.Table.{Lock}
-use Rattle.invariant.specs.Invariant.{readers, writers, leavers, Unqueued, empty, written, read, Locked, by-writer, by-readers, by-leaver, Inv}
+use Rattle.invariant.specs.Invariant.{readers, writers, leavers, Unqueued, empty, written, read, Locked}
+use Rattle.invariant.specs.Invariant.{by-writer, by-readers, by-leaver, Inv}
 
-module _ (n : ℕ) (s : Lock) (g : Ghost) (i : Inv n s g) (some : 1 ≤ writers n s + leavers n s) where
-  pub sole-bare : queued (s .word) ≡ false → (s .word .0 ≡ LOCKED) × (readers n s ≡ 0) × (writers n s ≡ 1) × (leavers n s ≡ 0)
+module _ {n : ℕ} {s : Lock} {g : Ghost} (i : Inv n s g) (some : 1 ≤ writers n s + leavers n s) where
+  pub sole-bare : queued (s .word) ≡ false
+      → (s .word .0 ≡ LOCKED) × (readers n s ≡ 0) × (writers n s ≡ 1) × (leavers n s ≡ 0)
   sole-bare q = by (i .count .bare q)
     where
-      by : Unqueued (s .word) (readers n s) (writers n s) (leavers n s) → (s .word .0 ≡ LOCKED) × (readers n s ≡ 0) × (writers n s ≡ 1) × (leavers n s ≡ 0)
+      by : Unqueued (s .word) (readers n s) (writers n s) (leavers n s)
+          → (s .word .0 ≡ LOCKED) × (readers n s ≡ 0) × (writers n s ≡ 1) × (leavers n s ≡ 0)
       by (empty z h) = absurd (omega (arith, h .writes, h .leaves))
       by (written z h) = (z, h .reads, h .writes, h .leaves)
       by (read z r h) = absurd (omega (arith, h .writes, h .leaves))
 
   pub sole-locked : queued (s .word) ≡ true → locked (s .word) ≡ true
-  sole-locked q = not-false (locked (s .word)) (λ e. omega (arith, i .count .unlocked q e .writes, i .count .unlocked q e .leaves))
+  sole-locked q =
+      not-false (locked (s .word))
+      (λ e. omega (arith, i .count .unlocked q e .writes, i .count .unlocked q e .leaves))
 
   pub sole-plain : queued (s .word) ≡ true → downgraded (s .word) ≡ false
-  sole-plain q = not-true (downgraded (s .word)) (λ e. omega (arith, i .count .handed q (sole-locked q) e .writes, i .count .handed q (sole-locked q) e .leaves))
+  sole-plain q =
+      not-true (downgraded (s .word))
+      (λ e. omega (
+        arith,
+        i .count .handed q (sole-locked q) e .writes,
+        i .count .handed q (sole-locked q) e .leaves,
+      ))
 
   pub sole : (readers n s ≡ 0) × (writers n s + leavers n s ≡ 1)
   sole = by (queued (s .word)) refl

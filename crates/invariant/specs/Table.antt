@@ -1,5 +1,7 @@
--- The lock's threads as the queue sees them: one table over the places, from which every summary is read.
--- In this order: what an owner makes of the word it saw; what is told of a place; the table; the machine as functions; its holders. Assumes nothing.
+-- The lock's threads as the queue sees them: one table over the places, from which every summary is read. In this
+-- order: what an owner makes of the word it saw; what is told of a place; the table; the machine as functions; its
+-- holders.
+-- Assumes nothing.
 use Prim.Native.Nat.{ℕ, zero, suc}
 use mathlib.Core.Bool.{Bool, true, false, not}
 use mathlib.Core.Path.{_≡_}
@@ -15,10 +17,11 @@ use Rattle.state.specs.declared.place.Who.the-variants.{Waiter, Leaver}
 use Rattle.state.specs.declared.place.Walk.{Walk}
 use Rattle.state.specs.declared.place.Walk.the-variants.{Queue, ReadUnlock, Downgrade}
 use Rattle.state.specs.declared.place.Place.{Place}
-use Rattle.state.specs.declared.place.Place.the-variants.{Idle, TryReadLoad, TryReadCas, TryWriteOr, ContendLoad, ContendCas, RegisterCas, CompletedLoad, Park, WalkTail, WalkNext, WalkPrev, WalkHead, QueueCas, SplitPrev, SplitStore, SplitCas, SplitRestore, TakeCas, WakePrev, WakeStore, ReadUnlockLoad, ReadUnlockCas, Subtract, WriteUnlockCas, ReleaseCas, DowngradeCas, DowngradeSlowCas}
+use Rattle.state.specs.declared.place.Place.the-variants as At
 use Rattle.lock.specs.Begin.{holdsNothing}
 use Rattle.queue.specs.Queue.{Links}
-use Rattle.queue.specs.Roles.{Role, none, ready, walk, past, link, head, split, aside, undo, wake, store, Kind, looks, changes, alone}
+use Rattle.queue.specs.Roles.{Role, none, ready, walk, past, link, head, split, aside, undo, wake, store, Kind, looks}
+use Rattle.queue.specs.Roles.{changes, alone}
 
 -- ── the word that an owner saw ──
 
@@ -41,8 +44,9 @@ pub data May : Type 0 where
   notRead : May
   notWrite : May
 
--- role: what it knows of the queue. owner, seen: the queue owner and the word it saw. reader: a contended reader. registered: its node waits or is
--- completed. ok: what its place says of the word it saw. leaves: a last reader between its subtraction and its release, if it holds nothing
+-- role: what it knows of the queue. owner, seen: the queue owner and the word it saw. reader: a contended reader.
+-- registered: its node waits or is completed. ok: what its place says of the word it saw. leaves: a last reader
+-- between its subtraction and its release, if it holds nothing
 pub record About : Type 0 where
   pub role : Role
   pub owner : Bool
@@ -196,34 +200,35 @@ waking who role =
     }
 
 abbrev pub about : Place → About
-about Idle = off any false false false
-about (TryReadLoad _) = off free false false false
-about (TryReadCas _ _) = off free false false false
-about (TryWriteOr _) = off free false false false
-about (ContendLoad _ _) = off free false false true
-about (ContendCas _ _ _) = off free false false true
-about (RegisterCas _ _ seen) = filling seen
-about (CompletedLoad _) = waiting false
-about (Park _) = waiting true
-about (WalkTail k seen current) = walking k seen (walk (kindOf k seen) (toNode seen .0) (current .0))
-about (WalkNext k seen current) = walking k seen (past (kindOf k seen) (toNode seen .0) (current .0))
-about (WalkPrev k seen current next) = walking k seen (link (kindOf k seen) (toNode seen .0) (current .0) (next .0))
-about (WalkHead k seen tail) = walking k seen (head (kindOf k seen) (toNode seen .0) (tail .0))
-about (QueueCas who seen) = owning who seen none (handsOff seen)
-about (SplitPrev who seen tail) = owning who seen (head changes (toNode seen .0) (tail .0)) (unheld seen)
-about (SplitStore who seen tail prev) = owning who seen (split (toNode seen .0) (tail .0) (prev .0)) (unheld seen)
-about (SplitCas who seen tail) = owning who seen (aside (toNode seen .0) (tail .0)) (unheld seen)
-about (SplitRestore who seen tail reported) = owning who seen (undo (toNode seen .0) (tail .0) (toNode reported .0)) (unheld seen)
-about (TakeCas who seen tail) = owning who seen (head changes (toNode seen .0) (tail .0)) (not (handsOff seen))
-about (WakePrev who current) = waking who (wake (current .0))
-about (WakeStore who current prev) = waking who (store (current .0) (prev .0))
-about ReadUnlockLoad = off reads false false false
-about (ReadUnlockCas _) = off reads false false false
-about (Subtract seen tail) = walking ReadUnlock seen (head looks (toNode seen .0) (tail .0))
-about WriteUnlockCas = off writes false false false
-about (ReleaseCas _) = off notRead true true false
-about DowngradeCas = off writes false false false
-about (DowngradeSlowCas _) = off writes false true false
+about At.Idle = off any false false false
+about (At.TryReadLoad _) = off free false false false
+about (At.TryReadCas _ _) = off free false false false
+about (At.TryWriteOr _) = off free false false false
+about (At.ContendLoad _ _) = off free false false true
+about (At.ContendCas _ _ _) = off free false false true
+about (At.RegisterCas _ _ seen) = filling seen
+about (At.CompletedLoad _) = waiting false
+about (At.Park _) = waiting true
+about (At.WalkTail k seen current) = walking k seen (walk (kindOf k seen) (toNode seen .0) (current .0))
+about (At.WalkNext k seen current) = walking k seen (past (kindOf k seen) (toNode seen .0) (current .0))
+about (At.WalkPrev k seen current next) = walking k seen (link (kindOf k seen) (toNode seen .0) (current .0) (next .0))
+about (At.WalkHead k seen tail) = walking k seen (head (kindOf k seen) (toNode seen .0) (tail .0))
+about (At.QueueCas who seen) = owning who seen none (handsOff seen)
+about (At.SplitPrev who seen tail) = owning who seen (head changes (toNode seen .0) (tail .0)) (unheld seen)
+about (At.SplitStore who seen tail prev) = owning who seen (split (toNode seen .0) (tail .0) (prev .0)) (unheld seen)
+about (At.SplitCas who seen tail) = owning who seen (aside (toNode seen .0) (tail .0)) (unheld seen)
+about (At.SplitRestore who seen tail reported) =
+    owning who seen (undo (toNode seen .0) (tail .0) (toNode reported .0)) (unheld seen)
+about (At.TakeCas who seen tail) = owning who seen (head changes (toNode seen .0) (tail .0)) (not (handsOff seen))
+about (At.WakePrev who current) = waking who (wake (current .0))
+about (At.WakeStore who current prev) = waking who (store (current .0) (prev .0))
+about At.ReadUnlockLoad = off reads false false false
+about (At.ReadUnlockCas _) = off reads false false false
+about (At.Subtract seen tail) = walking ReadUnlock seen (head looks (toNode seen .0) (tail .0))
+about At.WriteUnlockCas = off writes false false false
+about (At.ReleaseCas _) = off notRead true true false
+about At.DowngradeCas = off writes false false false
+about (At.DowngradeSlowCas _) = off writes false true false
 
 -- ── the machine as functions: of threads, and of node numbers ──
 

@@ -1,6 +1,8 @@
--- The queue's invariant, fresh, and how a step is put together: what it is to leave alone for the other threads.
--- A hypothesis `quiet` or `lonely` is what the lock's word says of the others (at most one owner; readers and a changing owner exclude each other).
--- Not here: the accesses (Walking, Registering, Taking); the word, holding, tokens, who may begin what. Assumes nothing.
+-- The queue's invariant, fresh, and how a step is put together: what it is to leave alone for the other threads. A
+-- hypothesis `quiet` or `lonely` is what the lock's word says of the others (at most one owner; readers and a
+-- changing owner exclude each other). Not here: the accesses (Walking, Registering, Taking); the word, holding,
+-- tokens, who may begin what.
+-- Assumes nothing.
 use mathlib.Core.Path.{_≡_, refl, sym, _∙_}
 use mathlib.Core.Logic.{_≢_}
 use mathlib.Core.Bool.{Bool, true, false, false≢true}
@@ -11,7 +13,8 @@ use Rattle.queue.specs.Updates.{upd, upd-other, upd-cases, upd-twice}
 use Rattle.queue.specs.Queue.{Links, Part, Live, Queue, Agree, setNx, setPv, setTl}
 use Rattle.queue.specs.Queue
 use Rattle.queue.specs.Tickets.{Ghost, queueOf, takenOf, Held, Parts, one-owner, waiting, live-queue, live-taken}
-use Rattle.queue.specs.Roles.{Kind, looks, changes, alone, Role, none, onQueue, changing, filled, on, Ground, Know, Still, KeepsClean, Untouched, Frame, agree-still, know-frame}
+use Rattle.queue.specs.Roles.{Kind, looks, changes, alone, Role, none, onQueue, changing, filled, on, Ground}
+use Rattle.queue.specs.Roles.{Know, Still, KeepsClean, Untouched, Frame, agree-still, know-frame}
 
 -- the links, which nodes wait, the threads' roles
 pub record St : Type 0 where
@@ -29,12 +32,28 @@ pub record Inv (g : Ghost) (s : St) : Type 0 where
 abbrev pub moved : St → ℕ → Links → (ℕ → Bool) → Role → St
 moved s t l wait r = record { links = l; wait = wait; role = upd (s .role) t r }
 
+-- only its role; its role and the links
+abbrev pub turned : St → ℕ → Role → St
+turned s t r = moved s t (s .links) (s .wait) r
+
+abbrev pub relinked : St → ℕ → Links → Role → St
+relinked s t l r = moved s t l (s .wait) r
+
 -- two steps of t are one: an access of the lock may be several of the queue
-pub moved-twice : (s : St) (t : ℕ) (l l′ : Links) (wait wait′ : ℕ → Bool) (r r′ : Role) → moved (moved s t l wait r) t l′ wait′ r′ ≡ moved s t l′ wait′ r′
+pub moved-twice : (s : St) (t : ℕ) (l l′ : Links) (wait wait′ : ℕ → Bool) (r r′ : Role)
+    → moved (moved s t l wait r) t l′ wait′ r′ ≡ moved s t l′ wait′ r′
 moved-twice s t l l′ wait wait′ r r′ = λ i. record { links = l′; wait = wait′; role = upd-twice (s .role) t r r′ i }
 
 abbrev pub ghost0 : Ghost
-ghost0 = record { log = λ i. 0; tk = λ k. 0; own = λ i. 0; lo = 0; hi = 0; fl = 0; taken = λ t. record { beg = 0; end = 0; flo = 0 } }
+ghost0 = record {
+  log = λ i. 0;
+  tk = λ k. 0;
+  own = λ i. 0;
+  lo = 0;
+  hi = 0;
+  fl = 0;
+  taken = λ t. record { beg = 0; end = 0; flo = 0 };
+}
 
 pub inv-fresh : (l : Links) → Inv ghost0 (record { links = l; wait = λ k. false; role = λ t. none })
 inv-fresh l = record {
@@ -77,7 +96,12 @@ abbrev pub fillLinks : Links → ℕ → Bool → ℕ → Links
 fillLinks l x first n = record { nx = upd (l .nx) x n; pv = upd (l .pv) x 0; tl = upd (l .tl) x (pick first x 0) }
 
 pub only-fill : (l : Links) (x : ℕ) (first : Bool) (n : ℕ) → Only l (fillLinks l x first n) x
-only-fill l x first n k ne = record { nx = upd-other (l .nx) x n k ne; pv = upd-other (l .pv) x 0 k ne; tl = upd-other (l .tl) x (pick first x 0) k ne }
+only-fill l x first n k
+    ne = record {
+      nx = upd-other (l .nx) x n k ne;
+      pv = upd-other (l .pv) x 0 k ne;
+      tl = upd-other (l .tl) x (pick first x 0) k ne;
+    }
 
 -- what the step of t is to leave alone for another thread
 pub record Spared (g g′ : Ghost) (s : St) (l′ : Links) (wait′ : ℕ → Bool) (u : ℕ) : Type 0 where
@@ -85,9 +109,10 @@ pub record Spared (g g′ : Ghost) (s : St) (l′ : Links) (wait′ : ℕ → Bo
   pub frame : Frame (queueOf g) (queueOf g′) (takenOf g u) (g′ .log) (s .links) l′ u (s .role u)
   pub free : filled (s .role u) ≡ true → wait′ (suc u) ≡ false
 
-module _ (g : Ghost) (s : St) (v : Inv g s) (t : ℕ) where
+module _ {g : Ghost} {s : St} (v : Inv g s) (t : ℕ) where
   pub step : (g′ : Ghost) (l′ : Links) (wait′ : ℕ → Bool) (r : Role) → Parts g′ wait′ → Queue (queueOf g′) l′
-      → Know (queueOf g′) (takenOf g′ t) l′ t r → (filled r ≡ true → wait′ (suc t) ≡ false) → ((u : ℕ) → u ≢ t → Spared g g′ s l′ wait′ u)
+      → Know (queueOf g′) (takenOf g′ t) l′ t r → (filled r ≡ true → wait′ (suc t) ≡ false)
+      → ((u : ℕ) → u ≢ t → Spared g g′ s l′ wait′ u)
       → Inv g′ (moved s t l′ wait′ r)
   step g′ l′ wait′ r ps q k f others = record {
     parts = ps;
@@ -97,35 +122,21 @@ module _ (g : Ghost) (s : St) (v : Inv g s) (t : ℕ) where
   }
     where
       other : (u : ℕ) → Spared g g′ s l′ wait′ u → Know (queueOf g′) (takenOf g′ u) l′ u (s .role u)
-      other u x = rw (x .taken) (know-frame (queueOf g) (queueOf g′) (takenOf g u) (g′ .log) (s .links) l′ u (s .role u) (x .frame) (v .know u))
+      other u x = rw (x .taken) (know-frame (s .role u) (x .frame) (v .know u))
 
   pub agree-refl : (p : Part) → Agree p (p .log) (s .links) (s .links)
   agree-refl p = record { log = λ i a b. refl; nx = λ i a b. refl; pv = λ i a b. refl; tl = λ i a b. refl }
-
-  -- the links stay, and the ghost too: only t's role moves
-  pub turn : (r : Role) → Know (queueOf g) (takenOf g t) (s .links) t r → (filled r ≡ true → s .wait (suc t) ≡ false) → Inv g (moved s t (s .links) (s .wait) r)
-  turn r k f = step g (s .links) (s .wait) r (v .parts) (v .queue) k f λ u ne. record {
-    taken = refl;
-    frame = record {
-      taken = agree-refl (takenOf g u);
-      node = λ _. record { nx = refl; pv = refl; tl = refl };
-      still = λ _. agree-still (queueOf g) (g .log) (s .links) (s .links) (agree-refl (queueOf g));
-      clean = λ _ h a c. c;
-      below = λ _ a. refl;
-    };
-    free = v .free u;
-  }
 
   pub told : (r : Role) → s .role t ≡ r → Know (queueOf g) (takenOf g t) (s .links) t r
   told r e = rw e at (v .know t)
 
   pub live : Live (queueOf g)
-  live = live-queue g (s .wait) (v .parts)
+  live = live-queue (v .parts)
 
   pub live-on : (k : Kind) → Live (on k (queueOf g) (takenOf g t))
   live-on looks = live
   live-on changes = live
-  live-on alone = live-taken g (s .wait) (v .parts) t
+  live-on alone = live-taken (v .parts) t
 
   pub queue-on : (k : Kind) → Ground k (takenOf g t) (s .links) → Queue (on k (queueOf g) (takenOf g t)) (s .links)
   queue-on looks e = v .queue
@@ -134,7 +145,8 @@ module _ (g : Ghost) (s : St) (v : Inv g s) (t : ℕ) where
 
   -- ── a store to one node ──
 
-  pub agree-off : (p : Part) (l′ : Links) (x : ℕ) → Only (s .links) l′ x → ((i : ℕ) → p .lo ≤ i → i < p .hi → p .log i ≢ x) → Agree p (p .log) (s .links) l′
+  pub agree-off : (p : Part) (l′ : Links) (x : ℕ) → Only (s .links) l′ x
+      → ((i : ℕ) → p .lo ≤ i → i < p .hi → p .log i ≢ x) → Agree p (p .log) (s .links) l′
   agree-off p l′ x only ne = record {
     log = λ i a b. refl;
     nx = λ i a b. only (p .log i) (ne i a b) .nx;
@@ -144,27 +156,43 @@ module _ (g : Ghost) (s : St) (v : Inv g s) (t : ℕ) where
 
   -- where the store is to no node of the queue
   pub still-off : (l′ : Links) → Agree (queueOf g) (g .log) (s .links) l′ → Still (queueOf g) (queueOf g) (s .links) l′
-  still-off l′ a = agree-still (queueOf g) (g .log) (s .links) l′ a
+  still-off l′ a = agree-still a
 
-  pub clean-off : (l′ : Links) → Agree (queueOf g) (g .log) (s .links) l′ → KeepsClean (queueOf g) (queueOf g) (s .links) l′
+  pub clean-off : (l′ : Links) → Agree (queueOf g) (g .log) (s .links) l′
+      → KeepsClean (queueOf g) (queueOf g) (s .links) l′
   clean-off l′ a h f c i x y = a .pv i (omega (arith, v .queue .base)) y ∙ c i x y
 
   -- the store is to the node of ticket j, which o holds
   module _ (l′ : Links) (j o : ℕ) (hj : Held g (s .wait) o j) (only : Only (s .links) l′ (g .log j)) where
     pub taken-off : (u : ℕ) → suc u ≢ o → Agree (takenOf g u) (g .log) (s .links) l′
-    taken-off u ne = agree-off (takenOf g u) l′ (g .log j) only (λ i a b. one-owner g (s .wait) (v .parts) i j (suc u) o (v .parts .held u i a b .1) hj ne)
+    taken-off u ne = agree-off (takenOf g u) l′ (g .log j) only
+        (λ i a b. one-owner (v .parts) i j (suc u) o (v .parts .held u i a b .1) hj ne)
 
     pub queue-off : 0 ≢ o → Agree (queueOf g) (g .log) (s .links) l′
-    queue-off ne = agree-off (queueOf g) l′ (g .log j) only (λ i a b. one-owner g (s .wait) (v .parts) i j 0 o (v .parts .queued i a b) hj ne)
+    queue-off ne =
+        agree-off (queueOf g) l′ (g .log j) only
+        (λ i a b. one-owner (v .parts) i j 0 o (v .parts .queued i a b) hj ne)
 
     pub node-off : (u : ℕ) → filled (s .role u) ≡ true → Untouched (s .links) l′ (suc u)
-    node-off u f = only (suc u) (λ e. waiting g (s .wait) (v .parts) j o (suc u) hj (v .free u f) (sym e))
+    node-off u f = only (suc u) (λ e. waiting (v .parts) j o (suc u) hj (v .free u f) (sym e))
 
     pub spared-on : (g′ : Ghost) → g′ .log ≡ g .log → (u : ℕ) → u ≢ t → suc u ≢ o → g′ .taken u ≡ g .taken u
         → (onQueue (s .role u) ≡ true → Still (queueOf g) (queueOf g′) (s .links) l′)
         → (changing (s .role u) ≡ true → KeepsClean (queueOf g) (queueOf g′) (s .links) l′)
-        → (changing (s .role u) ≡ true → l′ .nx (g .log (g .lo)) ≡ s .links .nx (g .log (g .lo))) → Spared g g′ s l′ (s .wait) u
-    spared-on g′ lg u ne other et st cl be = record { taken = et; frame = record { taken = rw lg (taken-off u other); node = node-off u; still = st; clean = cl; below = λ c _. be c }; free = v .free u }
+        → (changing (s .role u) ≡ true → l′ .nx (g .log (g .lo)) ≡ s .links .nx (g .log (g .lo)))
+        → Spared g g′ s l′ (s .wait) u
+    spared-on g′ lg u ne other et st cl
+        be = record {
+          taken = et;
+          frame = record {
+            taken = rw lg (taken-off u other);
+            node = node-off u;
+            still = st;
+            clean = cl;
+            below = λ c _. be c;
+          };
+          free = v .free u;
+        }
 
     -- t stores in what it has taken itself
     pub spared-off : o ≡ suc t → (u : ℕ) → u ≢ t → Spared g g s l′ (s .wait) u
@@ -181,3 +209,18 @@ module _ (g : Ghost) (s : St) (v : Inv g s) (t : ℕ) where
           };
           free = v .free u;
         }
+
+-- the links stay, and the ghost too: only t's role moves
+pub turn : (g : Ghost) (s : St) (v : Inv g s) (t : ℕ) (r : Role) → Know (queueOf g) (takenOf g t) (s .links) t r
+    → (filled r ≡ true → s .wait (suc t) ≡ false) → Inv g (turned s t r)
+turn g s v t r k f = step v t g (s .links) (s .wait) r (v .parts) (v .queue) k f λ u ne. record {
+  taken = refl;
+  frame = record {
+    taken = agree-refl v t (takenOf g u);
+    node = λ _. record { nx = refl; pv = refl; tl = refl };
+    still = λ _. agree-still (agree-refl v t (queueOf g));
+    clean = λ _ h a c. c;
+    below = λ _ a. refl;
+  };
+  free = v .free u;
+}

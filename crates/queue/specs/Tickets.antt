@@ -1,6 +1,8 @@
--- Who holds which tickets: the queue the interval lo .. hi - 1, each thread an interval that it took off, all apart, and their nodes the waiting ones.
--- In this order: the ghost, what it must satisfy, nodes that differ; then the five ways in which tickets pass on: register, set aside, restore, take, complete.
--- A thread that has set the oldest aside holds it already; a split that succeeds moves no ticket. Not here: links (Queue). Assumes nothing.
+-- Who holds which tickets: the queue the interval lo .. hi - 1, each thread an interval that it took off, all apart,
+-- and their nodes the waiting ones. In this order: the ghost, what it must satisfy, nodes that differ; then the five
+-- ways in which tickets pass on: register, set aside, restore, take, complete. A thread that has set the oldest aside
+-- holds it already; a split that succeeds moves no ticket. Not here: links (Queue).
+-- Assumes nothing.
 use mathlib.Core.Path.{_≡_, sym, ap, _∙_}
 use mathlib.Core.Logic.{_≢_, _⊎_, inl, inr}
 use mathlib.Core.Bool.{Bool, true, false, false≢true}
@@ -18,7 +20,8 @@ pub record Span : Type 0 where
   pub end : ℕ
   pub flo : ℕ
 
--- ticket i's node, a node's last ticket, who holds ticket i (0 the queue, t + 1 thread t); the queue; what the threads have taken
+-- ticket i's node, a node's last ticket, who holds ticket i (0 the queue, t + 1 thread t); the queue; what the
+-- threads have taken
 pub record Ghost : Type 0 where
   pub log : ℕ → ℕ
   pub tk : ℕ → ℕ
@@ -64,35 +67,75 @@ pub record Parts (g : Ghost) (wait : ℕ → Bool) : Type 0 where
 
 -- node k gets ticket hi
 abbrev pub registered : Ghost → ℕ → Ghost
-registered g k = record { log = upd (g .log) (g .hi) k; tk = upd (g .tk) k (g .hi); own = upd (g .own) (g .hi) 0; lo = g .lo; hi = suc (g .hi); fl = g .fl; taken = g .taken }
+registered g k = record {
+  log = upd (g .log) (g .hi) k;
+  tk = upd (g .tk) k (g .hi);
+  own = upd (g .own) (g .hi) 0;
+  lo = g .lo;
+  hi = suc (g .hi);
+  fl = g .fl;
+  taken = g .taken;
+}
 
 abbrev pub oldest : Ghost → Span
 oldest g = record { beg = g .lo; end = suc (g .lo); flo = g .lo }
 
 -- thread t gets the oldest; the floor becomes h
 abbrev pub asided : Ghost → ℕ → ℕ → Ghost
-asided g t h = record { log = g .log; tk = g .tk; own = upd (g .own) (g .lo) (suc t); lo = suc (g .lo); hi = g .hi; fl = h; taken = upd (g .taken) t (oldest g) }
+asided g t h = record {
+  log = g .log;
+  tk = g .tk;
+  own = upd (g .own) (g .lo) (suc t);
+  lo = suc (g .lo);
+  hi = g .hi;
+  fl = h;
+  taken = upd (g .taken) t (oldest g);
+}
 
 abbrev pub nothing : ℕ → Span
 nothing b = record { beg = b; end = b; flo = b }
 
 -- what thread t holds, ticket b, goes back
 abbrev pub restored : Ghost → ℕ → ℕ → Ghost
-restored g t b = record { log = g .log; tk = g .tk; own = upd (g .own) b 0; lo = b; hi = g .hi; fl = g .fl; taken = upd (g .taken) t (nothing b) }
+restored g t b = record {
+  log = g .log;
+  tk = g .tk;
+  own = upd (g .own) b 0;
+  lo = b;
+  hi = g .hi;
+  fl = g .fl;
+  taken = upd (g .taken) t (nothing b);
+}
 
 abbrev pub whole : Ghost → Span
 whole g = record { beg = g .lo; end = g .hi; flo = g .fl }
 
 -- thread t gets the whole queue
 abbrev pub took : Ghost → ℕ → Ghost
-took g t = record { log = g .log; tk = g .tk; own = λ i. pick (eqb (g .own i) 0) (suc t) (g .own i); lo = g .hi; hi = g .hi; fl = g .hi; taken = upd (g .taken) t (whole g) }
+took g t = record {
+  log = g .log;
+  tk = g .tk;
+  own = λ i. pick (eqb (g .own i) 0) (suc t) (g .own i);
+  lo = g .hi;
+  hi = g .hi;
+  fl = g .hi;
+  taken = upd (g .taken) t (whole g);
+}
 
 abbrev pub rest : Ghost → ℕ → Span
 rest g t = record { beg = suc (g .taken t .beg); end = g .taken t .end; flo = g .taken t .flo }
 
 -- thread t's oldest no longer waits
 abbrev pub completed : Ghost → ℕ → Ghost
-completed g t = record { log = g .log; tk = g .tk; own = g .own; lo = g .lo; hi = g .hi; fl = g .fl; taken = upd (g .taken) t (rest g t) }
+completed g t = record {
+  log = g .log;
+  tk = g .tk;
+  own = g .own;
+  lo = g .lo;
+  hi = g .hi;
+  fl = g .fl;
+  taken = upd (g .taken) t (rest g t);
+}
 
 -- thread t's interval is replaced
 module _ (f : ℕ → Span) (t : ℕ) (s : Span) (i : ℕ) where
@@ -106,7 +149,7 @@ module _ (f : ℕ → Span) (t : ℕ) (s : Span) (i : ℕ) where
       go (inl e) = here (rw e at (x .1)) (rw e at (x .2))
       go (inr ne) = there (x .0, rw (upd-other f t s (x .0) ne) (x .1), rw (upd-other f t s (x .0) ne) (x .2))
 
-module _ (g : Ghost) (wait : ℕ → Bool) (v : Parts g wait) where
+module _ {g : Ghost} {wait : ℕ → Bool} (v : Parts g wait) where
   -- ── nodes that differ ──
 
   pub one-node : (i j a b : ℕ) → Held g wait a i → Held g wait b j → i ≢ j → g .log i ≢ g .log j
@@ -139,7 +182,9 @@ module _ (g : Ghost) (wait : ℕ → Bool) (v : Parts g wait) where
   parts-register k nz e = record {
     order = omega (arith, v .order);
     queued = λ i a b. queued′ i a (eq? i (g .hi)) b;
-    held = λ t i a b. let x : (i < g .hi) × Held g wait (suc t) i = v .held t i a b in (omega arith, keep (suc t) i (x .0) (x .1));
+    held =
+        λ t i a b. let x : (i < g .hi) × Held g wait (suc t) i = v .held t i a b in
+        (omega arith, keep (suc t) i (x .0) (x .1));
     cover = λ j w. cover′ j (eq? j k) w;
   }
     where
@@ -151,7 +196,8 @@ module _ (g : Ghost) (wait : ℕ → Bool) (v : Parts g wait) where
         waits = rw (log-below k i h, upd-other wait k true (g .log i) (waiting i o k x e)) (x .waits);
       }
 
-      queued′ : (i : ℕ) → g .lo ≤ i → (i ≡ g .hi) ⊎ (i ≢ g .hi) → i < suc (g .hi) → Held (registered g k) (upd wait k true) 0 i
+      queued′ : (i : ℕ) → g .lo ≤ i → (i ≡ g .hi) ⊎ (i ≢ g .hi) → i < suc (g .hi)
+          → Held (registered g k) (upd wait k true) 0 i
       queued′ i a (inl z) b = record {
         own = rw (z, upd-same (g .own) (g .hi) 0);
         tk = rw (z, upd-same (g .log) (g .hi) k, upd-same (g .tk) k (g .hi));
@@ -185,12 +231,18 @@ module _ (g : Ghost) (wait : ℕ → Bool) (v : Parts g wait) where
       queued = λ i a b. keep 0 i (λ e. omega arith) (v .queued i (omega arith) b);
       held = upd-cases (HeldBy (asided g t h) wait) (g .taken) t (oldest g)
           (λ i a b. (omega arith, it i (omega arith)))
-          (λ u ne i a b. let x : (i < g .hi) × Held g wait (suc u) i = v .held u i a b in (x .0, keep (suc u) i (other u i (x .1)) (x .1)));
+          (λ u ne i a b. let x : (i < g .hi) × Held g wait (suc u) i = v .held u i a b in
+          (x .0, keep (suc u) i (other u i (x .1)) (x .1)));
       cover = λ k w. (v .cover k w .0, somewhere (g .tk k) (v .cover k w .1));
     }
       where
         keep : (o i : ℕ) → i ≢ g .lo → Held g wait o i → Held (asided g t h) wait o i
-        keep o i ne x = record { own = rw (upd-other (g .own) (g .lo) (suc t) i ne) (x .own); tk = x .tk; some = x .some; waits = x .waits }
+        keep o i ne x = record {
+          own = rw (upd-other (g .own) (g .lo) (suc t) i ne) (x .own);
+          tk = x .tk;
+          some = x .some;
+          waits = x .waits;
+        }
 
         other : (u i : ℕ) → Held g wait (suc u) i → i ≢ g .lo
         other u i x e = not-zero u (sym (x .own) ∙ rw e (v .queued (g .lo) (omega arith) s .own))
@@ -198,7 +250,12 @@ module _ (g : Ghost) (wait : ℕ → Bool) (v : Parts g wait) where
         it : (i : ℕ) → i ≡ g .lo → Held (asided g t h) wait (suc t) i
         it i e =
             let x : Held g wait 0 (g .lo) = v .queued (g .lo) (omega arith) s in
-            record { own = rw (e, upd-same (g .own) (g .lo) (suc t)); tk = rw e (x .tk); some = rw e (x .some); waits = rw e (x .waits) }
+            record {
+              own = rw (e, upd-same (g .own) (g .lo) (suc t));
+              tk = rw e (x .tk);
+              some = rw e (x .some);
+              waits = rw e (x .waits);
+            }
 
         somewhere : (i : ℕ) → Somewhere g i → Somewhere (asided g t h) i
         somewhere i (inl x) = go (eq? i (g .lo))
@@ -210,13 +267,15 @@ module _ (g : Ghost) (wait : ℕ → Bool) (v : Parts g wait) where
 
     -- ── restore: ticket b, all that thread t holds, goes back ──
 
-    pub parts-restore : (b : ℕ) → suc b ≡ g .lo → g .taken t .beg ≡ b → g .taken t .end ≡ g .lo → Parts (restored g t b) wait
+    pub parts-restore : (b : ℕ) → suc b ≡ g .lo → g .taken t .beg ≡ b → g .taken t .end ≡ g .lo
+        → Parts (restored g t b) wait
     parts-restore b eb e₁ e₂ = record {
       order = omega (arith, v .order);
       queued = λ i a k. queued′ i a k (eq? i b);
       held = upd-cases (HeldBy (restored g t b) wait) (g .taken) t (nothing b)
           (λ i a k. absurd (omega arith))
-          (λ u ne i a k. let x : (i < g .hi) × Held g wait (suc u) i = v .held u i a k in (x .0, keep (suc u) i (other u ne i (x .1)) (x .1)));
+          (λ u ne i a k. let x : (i < g .hi) × Held g wait (suc u) i = v .held u i a k in
+          (x .0, keep (suc u) i (other u ne i (x .1)) (x .1)));
       cover = λ k w. (v .cover k w .0, somewhere (g .tk k) (v .cover k w .1));
     }
       where
@@ -224,7 +283,12 @@ module _ (g : Ghost) (wait : ℕ → Bool) (v : Parts g wait) where
         it = v .held t b (omega arith) (omega arith) .1
 
         keep : (o i : ℕ) → i ≢ b → Held g wait o i → Held (restored g t b) wait o i
-        keep o i ne x = record { own = rw (upd-other (g .own) b 0 i ne) (x .own); tk = x .tk; some = x .some; waits = x .waits }
+        keep o i ne x = record {
+          own = rw (upd-other (g .own) b 0 i ne) (x .own);
+          tk = x .tk;
+          some = x .some;
+          waits = x .waits;
+        }
 
         other : (u : ℕ) → u ≢ t → (i : ℕ) → Held g wait (suc u) i → i ≢ b
         other u ne i x e = ne (pull (sym (x .own) ∙ rw e (it .own)))
@@ -233,12 +297,20 @@ module _ (g : Ghost) (wait : ℕ → Bool) (v : Parts g wait) where
             pull z = omega arith
 
         queued′ : (i : ℕ) → b ≤ i → i < g .hi → (i ≡ b) ⊎ (i ≢ b) → Held (restored g t b) wait 0 i
-        queued′ i a k (inl e) = record { own = rw (e, upd-same (g .own) b 0); tk = rw e (it .tk); some = rw e (it .some); waits = rw e (it .waits) }
+        queued′ i a k
+            (inl e) = record {
+              own = rw (e, upd-same (g .own) b 0);
+              tk = rw e (it .tk);
+              some = rw e (it .some);
+              waits = rw e (it .waits);
+            }
         queued′ i a k (inr ne) = keep 0 i ne (v .queued i (omega arith) k)
 
         somewhere : (i : ℕ) → Somewhere g i → Somewhere (restored g t b) i
         somewhere i (inl x) = inl (omega arith, x .1)
-        somewhere i (inr x) = among-old (g .taken) t (nothing b) i (λ y. inr y) (λ a k. inl (omega arith, omega (arith, v .held t i a k .0))) x
+        somewhere i (inr x) =
+            among-old (g .taken) t (nothing b) i (λ y. inr y)
+            (λ a k. inl (omega arith, omega (arith, v .held t i a k .0))) x
 
     -- ── take: thread t gets the whole queue ──
 
@@ -256,7 +328,12 @@ module _ (g : Ghost) (wait : ℕ → Bool) (v : Parts g wait) where
         it i x = record { own = rw (x .own); tk = x .tk; some = x .some; waits = x .waits }
 
         keep : (u i : ℕ) → Held g wait (suc u) i → Held (took g t) wait (suc u) i
-        keep u i x = record { own = rw (x .own, ne-eqb (suc u) 0 (not-zero u)); tk = x .tk; some = x .some; waits = x .waits }
+        keep u i x = record {
+          own = rw (x .own, ne-eqb (suc u) 0 (not-zero u));
+          tk = x .tk;
+          some = x .some;
+          waits = x .waits;
+        }
 
         somewhere : (i : ℕ) → Somewhere g i → Somewhere (took g t) i
         somewhere i (inl x) = inr (among-new (g .taken) t (whole g) i (x .0) (x .1))
@@ -264,13 +341,16 @@ module _ (g : Ghost) (wait : ℕ → Bool) (v : Parts g wait) where
 
     -- ── complete: thread t's oldest no longer waits ──
 
-    pub parts-complete : g .taken t .beg < g .taken t .end → Parts (completed g t) (upd wait (g .log (g .taken t .beg)) false)
+    pub parts-complete : g .taken t .beg < g .taken t .end
+        → Parts (completed g t) (upd wait (g .log (g .taken t .beg)) false)
     parts-complete s = record {
       order = v .order;
       queued = λ i a b. keep 0 i (one-owner i at 0 (suc t) (v .queued i a b) it (λ e. omega arith)) (v .queued i a b);
       held = upd-cases (HeldBy (completed g t) wait′) (g .taken) t (rest g t)
-          (λ i a b. let x : (i < g .hi) × Held g wait (suc t) i = v .held t i (omega arith) b in (x .0, keep (suc t) i (one-node i at (suc t) (suc t) (x .1) it (λ e. omega arith)) (x .1)))
-          (λ u ne i a b. let x : (i < g .hi) × Held g wait (suc u) i = v .held u i a b in (x .0, keep (suc u) i (one-owner i at (suc u) (suc t) (x .1) it (λ e. ne (omega arith))) (x .1)));
+          (λ i a b. let x : (i < g .hi) × Held g wait (suc t) i = v .held t i (omega arith) b in
+          (x .0, keep (suc t) i (one-node i at (suc t) (suc t) (x .1) it (λ e. omega arith)) (x .1)))
+          (λ u ne i a b. let x : (i < g .hi) × Held g wait (suc u) i = v .held u i a b in
+          (x .0, keep (suc u) i (one-owner i at (suc u) (suc t) (x .1) it (λ e. ne (omega arith))) (x .1)));
       cover = λ k w. cover′ k (eq? k (g .log at)) w;
     }
       where
@@ -284,14 +364,23 @@ module _ (g : Ghost) (wait : ℕ → Bool) (v : Parts g wait) where
         it = v .held t at (omega arith) s .1
 
         keep : (o i : ℕ) → g .log i ≢ g .log at → Held g wait o i → Held (completed g t) wait′ o i
-        keep o i ne x = record { own = x .own; tk = x .tk; some = x .some; waits = rw (upd-other wait (g .log at) false (g .log i) ne) (x .waits) }
+        keep o i ne x = record {
+          own = x .own;
+          tk = x .tk;
+          some = x .some;
+          waits = rw (upd-other wait (g .log at) false (g .log i) ne) (x .waits);
+        }
 
         somewhere : (i : ℕ) → i ≢ at → Somewhere g i → Somewhere (completed g t) i
         somewhere i ne (inl x) = inl x
-        somewhere i ne (inr x) = among-old (g .taken) t (rest g t) i (λ y. inr y) (λ a b. inr (among-new (g .taken) t (rest g t) i (omega arith) b)) x
+        somewhere i ne (inr x) =
+            among-old (g .taken) t (rest g t) i (λ y. inr y)
+            (λ a b. inr (among-new (g .taken) t (rest g t) i (omega arith) b)) x
 
-        cover′ : (k : ℕ) → (k ≡ g .log at) ⊎ (k ≢ g .log at) → wait′ k ≡ true → (g .log (g .tk k) ≡ k) × Somewhere (completed g t) (g .tk k)
+        cover′ : (k : ℕ) → (k ≡ g .log at) ⊎ (k ≢ g .log at) → wait′ k ≡ true
+            → (g .log (g .tk k) ≡ k) × Somewhere (completed g t) (g .tk k)
         cover′ k (inl e) w = absurd (false≢true (sym (upd-same wait (g .log at) false) ∙ (rw e at w)))
         cover′ k (inr ne) w =
-            let c : (g .log (g .tk k) ≡ k) × Somewhere g (g .tk k) = v .cover k (rw (upd-other wait (g .log at) false k ne) at w) in
+            let c : (g .log (g .tk k) ≡ k)
+            × Somewhere g (g .tk k) = v .cover k (rw (upd-other wait (g .log at) false k ne) at w) in
             (c .0, somewhere (g .tk k) (λ e. ne (sym (c .0) ∙ ap (g .log) e)) (c .1))
