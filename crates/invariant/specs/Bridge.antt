@@ -25,7 +25,7 @@ use Rattle.lock.specs.Record.{withThread}
 use Rattle.queue.specs.Updates.{upd, upd-same, upd-other, at-set, eq?}
 use Rattle.invariant.specs.Table.{Lock}
 use Rattle.invariant.specs.Fresh.{freshLock}
-use Rattle.invariant.specs.Kept.{wokenIn, after}
+use Rattle.invariant.specs.Kept.{wokenIn, afterChange}
 
 -- node number k lies at k - 1, and none is blank
 abbrev pub nodeIn : List Node → ℕ → Node
@@ -73,7 +73,7 @@ woken m (Somebody u) e = by (ltb (u .0) threadLimit) refl
 
 -- a step's change stored
 pub change-stored : (m : Machine) (t j : ℕ) (c : Change) → Sized m → t < threadLimit → j < threadLimit
-    → lockOf (wokenOf (storedOf m t j c) (c .woken)) ≡ after (lockOf m) t (suc j) c
+    → lockOf (wokenOf (storedOf m t j c) (c .woken)) ≡ afterChange (lockOf m) t (suc j) c
 change-stored m t j c z tl jl =
     woken (storedOf m t j c) (c .woken) (length-set (m .threads) t (c .thread) ∙ z .threads)
     ∙ λ i. record {

@@ -32,18 +32,18 @@ use Rattle.acquire.specs.declared.lock_contended.Permitted.the-variants.{To, Re
 use Rattle.lock.specs.Effect.{elsewhere, standOf}
 use Rattle.queue.specs.Tests.{never}
 use Rattle.queue.specs.Updates.{upd, upd-same, upd-other, map-upd}
-use Rattle.queue.specs.Tickets.{waiting}
+use Rattle.queue.specs.Tickets.{waiting-apart}
 use Rattle.queue.specs.Roles.{none, ready}
 use Rattle.queue.specs.Invariant as Q
 use Rattle.queue.specs.Registering
-use Rattle.invariant.specs.Table.{off, free, about, aboutAt, linksOf, waitOf, roleOf, Free, leaver}
+use Rattle.invariant.specs.Table.{offQueue, free, about, aboutAt, linksOf, waitOf, roleOf, Free, leaver}
 use Rattle.invariant.specs.Invariant.{readers, writers, leavers, Unqueued, empty, written, read, Real, Newest}
 use Rattle.invariant.specs.Invariant.{queueOf, Inv}
-use Rattle.invariant.specs.Frames.{moved, waits-as, stay, shown}
-use Rattle.invariant.specs.Moves.{isAside, Went, still, stood, contend-elsewhere}
+use Rattle.invariant.specs.Frames.{moved, waits-as, stay, viewed}
+use Rattle.invariant.specs.Moves.{isAside, Went, movesNoTicket, stood, contend-elsewhere}
 use Rattle.invariant.specs.Kept.{lookAt, Kept, kept-still, placed, Goes, Setting, mine, kept-stood}
-use Rattle.invariant.specs.Off.{is-off, Down, off-down, hop, finish}
-use Rattle.invariant.specs.Ends.{ended-read, ended-written}
+use Rattle.invariant.specs.OffQueue.{off-queue, RoleDown, role-down, goes-off-queue, ends-call}
+use Rattle.invariant.specs.CallEnds.{ended-read, ended-written}
 use Rattle.invariant.specs.Words.{agreed, word-is, readers-word}
 
 -- the lock rule refuses an unqueued word of the lock only where LOCKED is set
@@ -60,7 +60,7 @@ refused-locked writer w r v l (read z some h) e = readers-word w r z .locked
 
 -- a thread that contends, its role put down
 pub record Contends (st : Setting) : Type 0 where
-  pub down : Down (st .s) (st .g) (st .me .0)
+  pub down : RoleDown (st .s) (st .g) (st .me .0)
   pub free : Free (mine st .holding)
   pub leaves : leaver (mine st) ≡ 0
   pub unmoved : (p : Place) → standOf p ≡ elsewhere → isAside p ≡ false
@@ -91,13 +91,13 @@ module _ (st : Setting) (c : Contends st) where
   unregistered : waitOf (s .th) (s .nd) (suc (me .0)) ≡ false
   unregistered = rw (c .down .registered)
 
-  pub fill : (writer : Bool) (reloads : ℕ) → pick (queued (s .word)) true (locked (s .word)) ≡ true
+  pub kept-fill : (writer : Bool) (reloads : ℕ) → pick (queued (s .word)) true (locked (s .word)) ≡ true
       → Kept st (suc (me .0)) (fillOf (lookAt st (suc (me .0))) writer reloads (s .word))
-  fill writer reloads fits = (
+  kept-fill writer reloads fits = (
     g,
     stay n s g (me .0) x nd′ i (record {
       queue =
-          shown s (me .0) x nd′ (s .word)
+          viewed s (me .0) x nd′ (s .word)
           (Q.fillLinks (linksOf (s .nd)) (suc (me .0)) (not (queued (s .word))) (withoutFlags (s .word) .0))
           (waitOf (s .th) (s .nd)) (fill-links (s .nd) me writer (s .word)) same filled;
       inside = tin;
@@ -148,14 +148,14 @@ module _ (st : Setting) (c : Contends st) where
       off-own : Real n s → g .log (g .lo) ≢ suc (me .0)
       off-own r =
           let v : Newest g (s .word) = i .newest (r .queue) in
-          waiting (i .queue .parts) (g .lo) 0 (suc (me .0))
+          waiting-apart (i .queue .parts) (g .lo) 0 (suc (me .0))
           (i .queue .parts .queued (g .lo) (omega arith) (omega arith)) unregistered
 
   -- the lock rule grants
-  pub grant : (writer : Bool) (to : Word) → permittedOf writer (s .word) ≡ To to
+  pub kept-grant : (writer : Bool) (to : Word) → permittedOf writer (s .word) ≡ To to
       → Inv n (moved s (me .0) to
       (record { place = Idle; token = mine st .token; holding = grantedOf writer (mine st .holding) }) (s .nd)) g
-  grant true to e = by (writeLockOf (s .word)) refl e
+  kept-grant true to e = by (writeLockOf (s .word)) refl e
     where
       unlocked : (x : Word) → writeLockOf (s .word) ≡ WriteTo x → (locked (s .word) ≡ false) × (setLocked (s .word) ≡ x)
       unlocked x f =
@@ -171,35 +171,36 @@ module _ (st : Setting) (c : Contends st) where
           (moved s (me .0) w
           (record { place = Idle; token = mine st .token; holding = grantedWrite (mine st .holding) }) (s .nd)) g)
           is
-          (finish i (me .0) tin (c .down) (setLocked (s .word)) _
+          (ends-call i (me .0) tin (c .down) (setLocked (s .word)) _
           (ended-written i (me .0) tin (c .down) (c .free) (c .leaves) (unlocked x f .0)))
       by WriteRefused f z = absurd (let bad : _≡_ {A = ℕ} 0 1 = cc in omega arith)
-  grant false to e = by (readLockOf (s .word)) refl e
+  kept-grant false to e = by (readLockOf (s .word)) refl e
     where
       by : (r : ReadLocked) → readLockOf (s .word) ≡ r → byRead r ≡ To to
           → Inv n (moved s (me .0) to
           (record { place = Idle; token = mine st .token; holding = grantedRead (mine st .holding) }) (s .nd)) g
       by (ReadTo x) f z =
           let is : x ≡ to = cc z in
-          finish i (me .0) tin (c .down) to _
+          ends-call i (me .0) tin (c .down) to _
           (ended-read i (me .0) tin (c .down) (c .free) (c .leaves) to (f ∙ ap ReadTo is))
       by ReadRefused f z = absurd (let bad : _≡_ {A = ℕ} 0 1 = cc in omega arith)
 
   module _ (writer : Bool) (reloads : ℕ) where
-    on-to : (q : Place) → about q ≡ off free false false true → standOf q ≡ elsewhere → isAside q ≡ false
+    on-to : (q : Place) → about q ≡ offQueue free false false true → standOf q ≡ elsewhere → isAside q ≡ false
         → Kept st (suc (me .0)) (stays (lookAt st (suc (me .0))) (at q))
     on-to q told away near =
         kept-still st (suc (me .0)) _ _ g (c .unmoved q away near)
-        (hop i (me .0) tin (c .down) q (rw told (is-off _ _ _ _)) (rw told (c .free)) (rw told (never refl))
+        (goes-off-queue i (me .0) tin (c .down) q (rw told (off-queue _ _ _ _)) (rw told (c .free))
+        (rw told (never refl))
         (rw told (sym (c .leaves))) (λ _. rw told))
 
-    pub contend : Kept st (suc (me .0)) (contendJudged (lookAt st (suc (me .0))) writer reloads (s .word))
-    contend = by (permittedOf writer (s .word)) refl
+    pub kept-contend : Kept st (suc (me .0)) (contendJudged (lookAt st (suc (me .0))) writer reloads (s .word))
+    kept-contend = by (permittedOf writer (s .word)) refl
       where
         fill-bare : permittedOf writer (s .word) ≡ Refused → queued (s .word) ≡ false
             → Kept st (suc (me .0)) (fillOf (lookAt st (suc (me .0))) writer reloads (s .word))
         fill-bare e q =
-            fill writer reloads
+            kept-fill writer reloads
             (rw q (refused-locked writer (s .word) (readers n s) (writers n s) (leavers n s) (i .count .bare q) e))
 
         by : (r : Permitted) → permittedOf writer (s .word) ≡ r
@@ -207,7 +208,7 @@ module _ (st : Setting) (c : Contends st) where
         by (To to) e =
             on-to (ContendCas writer reloads (s .word)) refl (contend-elsewhere writer reloads (s .word) .1) refl
         by Refused e = pick-both (Kept st (suc (me .0))) (queued (s .word)) _ _
-            (λ q. fill writer reloads (rw q))
+            (λ q. kept-fill writer reloads (rw q))
             (λ q. pick-both (Kept st (suc (me .0))) (ltb reloads spinCount) _ _
             (λ _. on-to (ContendLoad writer (reloads + 1)) refl
             (contend-elsewhere writer (reloads + 1) (s .word) .0) refl) (λ _. fill-bare e q))
@@ -215,11 +216,12 @@ module _ (st : Setting) (c : Contends st) where
 module _ (st : Setting) where
   open Setting st using (n, s, g, i, me, tin)
 
-  contends-off : (p : Place) → mine st .place ≡ p → about p ≡ off free false false true → still p ≡ true → Contends st
+  contends-off : (p : Place) → mine st .place ≡ p → about p ≡ offQueue free false false true
+      → movesNoTicket p ≡ true → Contends st
   contends-off p here told unmoved =
-      let e : aboutAt s (me .0) ≡ off free false false true = ap about here ∙ told in
+      let e : aboutAt s (me .0) ≡ offQueue free false false true = ap about here ∙ told in
       record {
-        down = off-down i (me .0) (rw e (is-off _ _ _ _));
+        down = role-down i (me .0) (rw e (off-queue _ _ _ _));
         free = rw e at (i .holding (me .0));
         leaves = rw e;
         unmoved = λ q _ near. stood me g here unmoved q near;
@@ -228,7 +230,7 @@ module _ (st : Setting) where
   pub kept-contend-load : (writer : Bool) (reloads : ℕ) → mine st .place ≡ ContendLoad writer reloads
       → Goes st (suc (me .0)) (λ v. contendLoadOf v writer reloads)
   kept-contend-load writer reloads here =
-      contend st (contends-off (ContendLoad writer reloads) here refl refl) writer reloads
+      kept-contend st (contends-off (ContendLoad writer reloads) here refl refl) writer reloads
 
   pub kept-contend-cas : (writer : Bool) (reloads : ℕ) (seen : Word) → mine st .place ≡ ContendCas writer reloads seen
       → Goes st (suc (me .0)) (λ v. contendCasOf v writer reloads seen)
@@ -241,9 +243,9 @@ module _ (st : Setting) where
       c = contends-off (ContendCas writer reloads seen) here refl refl
 
       again : Kept st (suc (me .0)) (contendJudged (lookAt st (suc (me .0))) writer reloads (s .word))
-      again = contend st c writer reloads
+      again = kept-contend st c writer reloads
 
       by : (r : Permitted) → permittedOf writer (s .word) ≡ r
           → Kept st (suc (me .0)) (contendCasBy (lookAt st (suc (me .0))) writer reloads r)
-      by (To to) e = kept-stood st (suc (me .0)) here refl _ _ refl (grant st c writer to e)
+      by (To to) e = kept-stood st (suc (me .0)) here refl _ _ refl (kept-grant st c writer to e)
       by Refused e = again

@@ -28,26 +28,26 @@ use Rattle.queue.specs.Tickets.{took}
 use Rattle.queue.specs.Roles.{onQueue}
 use Rattle.queue.specs.Invariant as Q
 use Rattle.queue.specs.Taking
-use Rattle.invariant.specs.Table.{off, writes, about, aboutAt, roleOf, Writes, leaver}
+use Rattle.invariant.specs.Table.{offQueue, writes, about, aboutAt, roleOf, Writes, leaver}
 use Rattle.invariant.specs.Invariant.{readers, writers, leavers, Hold, read, Newest, queueOf, Inv}
-use Rattle.invariant.specs.Told.{told}
-use Rattle.invariant.specs.Beside.{inside, unowned, reading, needs-some}
+use Rattle.invariant.specs.TableFacts.{row-facts}
+use Rattle.invariant.specs.Exclusion.{inside, unowned, reading, needs-some}
 use Rattle.invariant.specs.Frames.{moved}
 use Rattle.invariant.specs.Moves.{downgrade-takes, downgrade-ends, downgrade-fails}
 use Rattle.invariant.specs.Kept.{lookAt, Kept, kept-still, Goes, Setting, mine, goneTo, kept-stood}
-use Rattle.invariant.specs.Off.{is-off, Down, off-down, hop, Ended, finish}
-use Rattle.invariant.specs.Ends.{ended-bare}
+use Rattle.invariant.specs.OffQueue.{off-queue, RoleDown, role-down, goes-off-queue, Ended, ends-call}
+use Rattle.invariant.specs.CallEnds.{ended-bare}
 use Rattle.invariant.specs.Release.{writer-counts}
-use Rattle.invariant.specs.Sole.{sole, sole-bare, sole-locked}
-use Rattle.invariant.specs.Take.{take}
+use Rattle.invariant.specs.OneHolder.{one-holder, one-holder-bare, one-holder-locked}
+use Rattle.invariant.specs.Take.{takes-whole}
 use Rattle.invariant.specs.Words.{agreed, word-is}
 
 -- a thread that downgrades, q: whether it needs the queue to stay
-module _ (st : Setting) (needsQueue : Bool) (is : about (mine st .place) ≡ off writes false needsQueue false) where
+module _ (st : Setting) (needsQueue : Bool) (is : about (mine st .place) ≡ offQueue writes false needsQueue false) where
   open Setting st using (n, s, g, i, me, tin)
 
-  down : Down s g (me .0)
-  down = off-down i (me .0) (rw is (is-off _ _ _ _))
+  down : RoleDown s g (me .0)
+  down = role-down i (me .0) (rw is (off-queue _ _ _ _))
 
   holds : Writes (mine st .holding)
   holds = rw is at (i .holding (me .0))
@@ -64,9 +64,9 @@ module _ (st : Setting) (needsQueue : Bool) (is : about (mine st .place) ≡ off
   -- it is the only holder
   only : Hold (readers n s) (writers n s) (leavers n s) 0 1 0
   only = record {
-    reads = sole i some .0;
-    writes = omega (arith, counts, sole i some .1);
-    leaves = omega (arith, counts, sole i some .1);
+    reads = one-holder i some .0;
+    writes = omega (arith, counts, one-holder i some .1);
+    leaves = omega (arith, counts, one-holder i some .1);
   }
 
   unread : (u : ℕ) → aboutAt s u .reader ≡ true → ⊥
@@ -115,7 +115,7 @@ module _ (st : Setting) (needsQueue : Bool) (is : about (mine st .place) ≡ off
       same-owner = set-keeps DOWNGRADED QUEUE-LOCKED refl (s .word)
 
       is-locked : locked (setDowngraded (s .word)) ≡ true
-      is-locked = set-keeps DOWNGRADED LOCKED refl (s .word) ∙ sole-locked i some q
+      is-locked = set-keeps DOWNGRADED LOCKED refl (s .word) ∙ one-holder-locked i some q
 
       is-downgraded : downgraded (setDowngraded (s .word)) ≡ true
       is-downgraded = set-has DOWNGRADED refl (s .word)
@@ -130,7 +130,7 @@ module _ (st : Setting) (needsQueue : Bool) (is : about (mine st .place) ≡ off
   }
 
   alone : queueLocked (s .word) ≡ false → Q.Lonely (queueOf s) (me .0)
-  alone l u ne = not-true (onQueue (roleOf (s .th) u)) (λ e. by (told (s .th u .place) .stands e))
+  alone l u ne = not-true (onQueue (roleOf (s .th) u)) (λ e. by (row-facts (s .th u .place) .stands e))
     where
       by : (aboutAt s u .owner ≡ true) ⊎ (aboutAt s u .reader ≡ true) → ⊥
       by (inl e) = never (unowned i l u) e
@@ -157,7 +157,7 @@ module _ (st : Setting) (needsQueue : Bool) (is : about (mine st .place) ≡ off
       → Inv n (moved s (me .0) (word (SINGLE + LOCKED)) next (s .nd)) (took g (me .0))
   takes-all q l =
       let v : Newest g (s .word) = i .newest q in
-      take i (me .0) tin (word (SINGLE + LOCKED)) next (record { unqueued = refl; unowned = refl; plain = refl })
+      takes-whole i (me .0) tin (word (SINGLE + LOCKED)) next (record { unqueued = refl; unowned = refl; plain = refl })
       (record {
         queue =
             Taking.take-alone (i .queue) (me .0) (toNode (s .word) .0) (v .ticket) (ap (λ a. a .role) is) (alone l)
@@ -186,7 +186,7 @@ module _ (st : Setting) (needsQueue : Bool) (is : about (mine st .place) ≡ off
       by : (l : Bool) → queueLocked (s .word) ≡ l
           → Kept st k (writesTo (lookAt st k) (pick l (setDowngraded (s .word)) (word (SINGLE + LOCKED)))
           (downgradedTo (mine st .holding)) (pick l (end Done) (walkFrom Downgrade (s .word))))
-      by true l = kept-still st k _ _ g (downgrade-ends me g here) (finish i (me .0) tin down _ _ (handed-over q l))
+      by true l = kept-still st k _ _ g (downgrade-ends me g here) (ends-call i (me .0) tin down _ _ (handed-over q l))
       by false l =
           kept-still st k _ _ (took g (me .0))
           (downgrade-takes me g here _ _ _ _ (record { none = rw is at (i .queue .know (me .0)); is = refl }))
@@ -196,20 +196,21 @@ module _ (st : Setting) (k : ℕ) where
   open Setting st using (n, s, g, i, me, tin)
 
   -- on to the slow compare, with the word as it is
-  slowly : (needsQueue : Bool) (is : aboutAt s (me .0) ≡ off writes false needsQueue false) → queued (s .word) ≡ true
+  slowly : (needsQueue : Bool) (is : aboutAt s (me .0) ≡ offQueue writes false needsQueue false)
+      → queued (s .word) ≡ true
       → Inv n (goneTo st (DowngradeSlowCas (s .word)) (s .nd)) g
   slowly needsQueue is q =
-      hop i (me .0) tin (down st needsQueue is) (DowngradeSlowCas (s .word)) (is-off _ _ _ _)
+      goes-off-queue i (me .0) tin (down st needsQueue is) (DowngradeSlowCas (s .word)) (off-queue _ _ _ _)
       (holds st needsQueue is) (λ _. q) (rw is) (rw is (never refl))
 
   pub kept-downgrade-cas : mine st .place ≡ DowngradeCas → Goes st k (λ v. downgradeCasOf v)
   kept-downgrade-cas here = pick-both (Kept st k) (eqb (s .word .0) LOCKED) _ _
       (λ e. kept-stood st k here refl _ _ refl
-      (finish i (me .0) tin _ _ _ (plainly st false (ap about here) (eqb-true (s .word .0) LOCKED e))))
+      (ends-call i (me .0) tin _ _ _ (plainly st false (ap about here) (eqb-true (s .word .0) LOCKED e))))
       (λ e. kept-stood st k here refl _ _ refl
       (slowly false (ap about here)
       (not-false (queued (s .word))
-      (λ q. eqb-false (s .word .0) LOCKED e (sole-bare i (some st false (ap about here)) q .0)))))
+      (λ q. eqb-false (s .word .0) LOCKED e (one-holder-bare i (some st false (ap about here)) q .0)))))
 
   pub kept-downgrade-slow-cas : (seen : Word) → mine st .place ≡ DowngradeSlowCas seen
       → Goes st k (λ v. downgradeSlowCasOf v seen)

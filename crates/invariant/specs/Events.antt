@@ -57,8 +57,8 @@ use Rattle.queue.specs.Tickets.{Ghost}
 use Rattle.invariant.specs.Invariant.{Inv}
 use Rattle.invariant.specs.Moves.{isAside, Moved, AsideAfter, Went, stood}
 use Rattle.invariant.specs.Kept.{wokenIn, Kept, Goes, Setting}
-use Rattle.invariant.specs.Steps.{Waiting, touches, slot-waiting, slot-marked, kept-at}
-use Rattle.invariant.specs.Begins.{near, begins}
+use Rattle.invariant.specs.Steps.{WaitingNode, touches, slot-waiting, slot-marked, kept-everywhere}
+use Rattle.invariant.specs.Begins.{first-not-aside, kept-begin}
 use Rattle.invariant.specs.Bridge.{lockOf, thread-stored, change-stored}
 use Rattle.state.specs.declared.view.Mark.{Mark}
 
@@ -185,7 +185,7 @@ module _ (m : Machine) (ok : Ok m) (me : ThreadNumber) (tin : me .0 < m .count) 
         differ : (j : ℕ) → slotOf (touchedOf (accessOf me p) me) (m .count) ≡ At j → ⊥
         differ j f = let bad : _≡_ {A = ℕ} 0 1 = cc in omega arith
 
-        by : (touchedOf (accessOf me p) me .0 ≡ me .0 + 1) ⊎ Waiting (ok .inv) (touchedOf (accessOf me p) me .0) → ⊥
+        by : (touchedOf (accessOf me p) me .0 ≡ me .0 + 1) ⊎ WaitingNode (ok .inv) (touchedOf (accessOf me p) me .0) → ⊥
         by (inl z) =
             differ _
             (sym (pick-no (ltb (touchedOf (accessOf me p) me .0) 1) _ Outside _
@@ -223,7 +223,7 @@ module _ (m : Machine) (ok : Ok m) (me : ThreadNumber) (tin : me .0 < m .count) 
             × (j < m .count) = slot-at (touchedOf (accessOf me p) me) (m .count) j e in
             landed-safe _ j (omega (arith, few)) (advanceOf (viewAt m me j fails p) p)
             (subst (λ k. Goes (setting (markOf m (markedOf p))) k (λ v. advanceOf v p)) (x .0 ∙ add-one j)
-            (kept-at (setting (markOf m (markedOf p))) few p here (threadAt m (me .0) .token) fine marked))
+            (kept-everywhere (setting (markOf m (markedOf p))) few p here (threadAt m (me .0) .token) fine marked))
 
     step-at-safe : Safe m (ok .ghost) me (stepAt m me fails p)
     step-at-safe = by (haltedOf (accessOf me p .kind) (threadAt m (me .0) .token) fails) refl
@@ -270,11 +270,11 @@ begin-safe m ok me tin call = pick-both (Safe m (ok .ghost) me) (isIdle (threadA
         ghost = ok .ghost;
         inv =
             rw (thread-stored m (me .0) (placedOf (threadAt m (me .0)) (firstPlace call)) within)
-            (begins (ok .inv) (me .0) tin idle call may);
+            (kept-begin (ok .inv) (me .0) tin idle call may);
       };
       moved =
           subst (λ p. Went me (threadAt m (me .0) .place) (ok .ghost) p (ok .ghost)) (sym began-at)
-          (stood me (ok .ghost) idle refl (firstPlace call) (near call));
+          (stood me (ok .ghost) idle refl (firstPlace call) (first-not-aside call));
       not-eight = λ e. let bad : _≡_ {A = ℕ} 0 1 = cc in omega arith;
     }
 

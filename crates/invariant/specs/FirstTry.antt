@@ -16,26 +16,26 @@ use Rattle.state.specs.declared.place.Place.the-variants.{Idle, TryReadLoad, Tr
 use Rattle.acquire.specs.TryRead.{tryReadBy, tryReadJudged, tryReadLoadOf, tryReadCasBy, tryReadCasOf}
 use Rattle.acquire.specs.TryWrite.{tryWriteRefused, tryWriteOrOf}
 use Rattle.queue.specs.Tests.{never}
-use Rattle.invariant.specs.Table.{free, off, about, aboutAt, Free, Allowed, leaver}
+use Rattle.invariant.specs.Table.{free, offQueue, about, aboutAt, Free, Allowed, leaver}
 use Rattle.invariant.specs.Invariant.{Inv}
 use Rattle.invariant.specs.Frames.{moved}
-use Rattle.invariant.specs.Moves.{still}
+use Rattle.invariant.specs.Moves.{movesNoTicket}
 use Rattle.invariant.specs.Kept.{lookAt, Kept, Goes, Setting, mine, goneTo, kept-stood}
-use Rattle.invariant.specs.Off.{Off, is-off, Down, off-down, hop, finish}
-use Rattle.invariant.specs.Ends.{ended-read, ended-written}
+use Rattle.invariant.specs.OffQueue.{OffQueue, off-queue, RoleDown, role-down, goes-off-queue, ends-call}
+use Rattle.invariant.specs.CallEnds.{ended-read, ended-written}
 use Rattle.invariant.specs.Words.{agreed}
 
 module _ (st : Setting) (k : ℕ) where
   open Setting st using (n, s, g, i, me, tin)
 
   -- a thread that stands at a first attempt
-  module _ (p : Place) (here : mine st .place ≡ p) (first : about p ≡ off free false false false)
-      (unmoved : still p ≡ true) where
-    told : aboutAt s (me .0) ≡ off free false false false
+  module _ (p : Place) (here : mine st .place ≡ p) (first : about p ≡ offQueue free false false false)
+      (unmoved : movesNoTicket p ≡ true) where
+    told : aboutAt s (me .0) ≡ offQueue free false false false
     told = ap about here ∙ first
 
-    is-first : Down s g (me .0)
-    is-first = off-down i (me .0) (rw told (is-off _ _ _ _))
+    is-first : RoleDown s g (me .0)
+    is-first = role-down i (me .0) (rw told (off-queue _ _ _ _))
 
     nothing : Free (mine st .holding)
     nothing = rw told at (i .holding (me .0))
@@ -43,24 +43,25 @@ module _ (st : Setting) (k : ℕ) where
     no-leaver : leaver (mine st) ≡ 0
     no-leaver = rw told
 
-    on-to : (q : Place) → Off (about q) → Allowed (about q .may) (mine st .holding) → about q .needsQueue ≡ false
+    on-to : (q : Place) → OffQueue (about q) → Allowed (about q .may) (mine st .holding) → about q .needsQueue ≡ false
         → about q .leaves ≡ false
         → Inv n (goneTo st q (s .nd)) g
-    on-to q o a needs leaves = hop i (me .0) tin is-first q o a (never needs) (rw (leaves, told)) (rw told (never refl))
+    on-to q o a needs leaves =
+        goes-off-queue i (me .0) tin is-first q o a (never needs) (rw (leaves, told)) (rw told (never refl))
 
     judged : (blocking : Bool) (r : ReadLocked) → Kept st k (tryReadBy (lookAt st k) blocking (s .word) r)
     judged blocking (To to) =
         kept-stood st k here unmoved _ _ refl
-        (on-to (TryReadCas blocking (s .word)) (is-off _ _ _ _) nothing refl refl)
+        (on-to (TryReadCas blocking (s .word)) (off-queue _ _ _ _) nothing refl refl)
     judged true Refused =
-        kept-stood st k here unmoved _ _ refl (on-to (ContendLoad false 0) (is-off _ _ _ _) nothing refl refl)
-    judged false Refused = kept-stood st k here unmoved _ _ refl (on-to Idle (is-off _ _ _ _) tt refl refl)
+        kept-stood st k here unmoved _ _ refl (on-to (ContendLoad false 0) (off-queue _ _ _ _) nothing refl refl)
+    judged false Refused = kept-stood st k here unmoved _ _ refl (on-to Idle (off-queue _ _ _ _) tt refl refl)
 
   pub kept-try-read-load : (blocking : Bool) → mine st .place ≡ TryReadLoad blocking
       → Goes st k (λ v. tryReadLoadOf v blocking)
   kept-try-read-load blocking here = judged (TryReadLoad blocking) here refl refl blocking (readLockOf (s .word))
 
-  at-end : (p : Place) → mine st .place ≡ p → still p ≡ true → (blocking : Bool) (w : Word) (h : Holding)
+  at-end : (p : Place) → mine st .place ≡ p → movesNoTicket p ≡ true → (blocking : Bool) (w : Word) (h : Holding)
       → Inv n (moved s (me .0) w (record { place = Idle; token = mine st .token; holding = h }) (s .nd)) g
       → Kept st k (writes (lookAt st k) w h (granted blocking))
   at-end p here unmoved true w h j = kept-stood st k here unmoved _ _ refl j
@@ -77,7 +78,7 @@ module _ (st : Setting) (k : ℕ) where
       by : s .word ≡ seen → (r : ReadLocked) → readLockOf seen ≡ r → Kept st k (tryReadCasBy (lookAt st k) blocking r)
       by same (To to) e =
           at-end (TryReadCas blocking seen) here refl blocking to _
-          (finish i (me .0) tin _ to _
+          (ends-call i (me .0) tin _ to _
           (ended-read i (me .0) tin (is-first (TryReadCas blocking seen) here refl refl)
           (nothing (TryReadCas blocking seen) here refl refl) (no-leaver (TryReadCas blocking seen) here refl refl)
           to (ap readLockOf same ∙ e)))
@@ -87,15 +88,15 @@ module _ (st : Setting) (k : ℕ) where
       → Goes st k (λ v. tryWriteOrOf v blocking)
   kept-try-write-or blocking here = pick-both (Kept st k) (locked (s .word)) _ _ (λ e. held blocking)
       (λ e. at-end (TryWriteOr blocking) here refl blocking _ _
-      (finish i (me .0) tin _ _ _
+      (ends-call i (me .0) tin _ _ _
       (ended-written i (me .0) tin (is-first (TryWriteOr blocking) here refl refl)
       (nothing (TryWriteOr blocking) here refl refl) (no-leaver (TryWriteOr blocking) here refl refl) e)))
     where
       held : (b : Bool) → Kept st k (stays (lookAt st k) (tryWriteRefused b))
       held true =
           kept-stood st k here refl _ _ refl
-          (on-to (TryWriteOr blocking) here refl refl (ContendLoad true 0) (is-off _ _ _ _)
+          (on-to (TryWriteOr blocking) here refl refl (ContendLoad true 0) (off-queue _ _ _ _)
           (nothing (TryWriteOr blocking) here refl refl) refl refl)
       held false =
           kept-stood st k here refl _ _ refl
-          (on-to (TryWriteOr blocking) here refl refl Idle (is-off _ _ _ _) tt refl refl)
+          (on-to (TryWriteOr blocking) here refl refl Idle (off-queue _ _ _ _) tt refl refl)

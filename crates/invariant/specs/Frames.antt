@@ -49,9 +49,10 @@ module _ (s : Lock) (t : ℕ) (x : Thread) (nd : ℕ → Node) where
       λ i. record { links = e i; wait = f i; role = map-upd (λ y. about (y .place) .role) (s .th) t x i }
 
   -- so the queue's step is the lock's
-  pub shown : {g : Ghost} (w : Word) (l : Links) (wait : ℕ → Bool) → linksOf nd ≡ l → waitOf (upd (s .th) t x) nd ≡ wait
+  pub viewed : {g : Ghost} (w : Word) (l : Links) (wait : ℕ → Bool) → linksOf nd ≡ l
+      → waitOf (upd (s .th) t x) nd ≡ wait
       → Q.Inv g (Q.moved (queueOf s) t l wait (about (x .place) .role)) → Q.Inv g (queueOf (moved s t w x nd))
-  shown {g} w l wait e f q = subst (λ z. Q.Inv g z) (sym (view w l wait e f)) q
+  viewed {g} w l wait e f q = subst (λ z. Q.Inv g z) (sym (view w l wait e f)) q
 
   -- a sum over the threads, after t became x
   pub summed : (n : ℕ) → t < n → (f : Thread → ℕ)
@@ -59,11 +60,11 @@ module _ (s : Lock) (t : ℕ) (x : Thread) (nd : ℕ → Node) where
   summed n l f = sum-upd n f (s .th) t x l
 
 -- where no node changes, and the thread is registered if it was
-pub shown-still : (s : Lock) (t : ℕ) (x : Thread) {g : Ghost} (w : Word)
+pub viewed-still : (s : Lock) (t : ℕ) (x : Thread) {g : Ghost} (w : Word)
     → about (x .place) .registered ≡ aboutAt s t .registered → Q.Inv g (Q.turned (queueOf s) t (about (x .place) .role))
     → Q.Inv g (queueOf (moved s t w x (s .nd)))
-shown-still s t x w same =
-    shown s t x (s .nd) w (linksOf (s .nd)) (waitOf (s .th) (s .nd)) refl
+viewed-still s t x w same =
+    viewed s t x (s .nd) w (linksOf (s .nd)) (waitOf (s .th) (s .nd)) refl
     (waits-as s t x (s .nd) (waitOf (s .th) (s .nd)) refl (rw same) (λ u ne. refl))
 
 -- another word of the same node

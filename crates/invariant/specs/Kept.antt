@@ -1,12 +1,9 @@
 -- A step's rule keeps the invariant: what is proved of the rule of each place.
---     Setting     a step of one thread on a lock that has the invariant
---     lookAt      what the step may look at, in the machine as functions: specs' view of a step
---     after       the machine after a change is stored: word, one node, the thread's record, then the token of the
--- thread woken
---     Kept        the rule does not refuse, the machine after it has the invariant, and the tickets have moved by the
--- step's
---                 effect alone
---     kept-still  so where no node changes; kept-stood, where no ticket moves either
+--     Setting      a step of one thread on a lock that has the invariant
+--     lookAt       what the step may look at, in the machine as functions: specs' view of a step
+--     afterChange  the machine with a change stored: word, one node, the thread's record, the token of the thread woken
+--     Kept         the rule does not refuse, the machine after it has the invariant, and the tickets went by its effect
+--     kept-still   so where no node changes; kept-stood, where no ticket moves either
 -- Assumes nothing.
 use Prim.Native.Nat.{ℕ, _<_}
 use mathlib.Core.Bool.{Bool, true, false}
@@ -31,7 +28,7 @@ use Rattle.queue.specs.Tickets.{Ghost}
 use Rattle.invariant.specs.Table.{Lock}
 use Rattle.invariant.specs.Invariant.{Inv}
 use Rattle.invariant.specs.Frames.{moved}
-use Rattle.invariant.specs.Moves.{Went, isAside, still, stood}
+use Rattle.invariant.specs.Moves.{Went, isAside, movesNoTicket, stood}
 use Rattle.state.specs.declared.node.Node.{Node}
 
 -- a step of thread me, one of n, on a lock s that has the invariant with the tickets g; the mark that it finds, and
@@ -65,8 +62,8 @@ abbrev pub wokenIn : (ℕ → Thread) → Owner → ℕ → Thread
 wokenIn th Nobody = th
 wokenIn th (Somebody u) = pick (ltb (u .0) threadLimit) (upd th (u .0) (tokenedOf (th (u .0)))) th
 
-abbrev pub after : Lock → ℕ → ℕ → Change → Lock
-after s t k c =
+abbrev pub afterChange : Lock → ℕ → ℕ → Change → Lock
+afterChange s t k c =
     record {
       word = c .word;
       th = wokenIn (upd (s .th) t (c .thread)) (c .woken);
@@ -75,7 +72,7 @@ after s t k c =
 
 abbrev pub Kept : Setting → ℕ → Stepped → Type 0
 Kept st k (To c) =
-    (h : Ghost) × Inv (st .n) (after (st .s) (st .me .0) k c) h
+    (h : Ghost) × Inv (st .n) (afterChange (st .s) (st .me .0) k c) h
     × Went (st .me) (mine st .place) (st .g) (c .thread .place) h
 Kept st k (Refused r) = ⊥
 
@@ -101,7 +98,7 @@ module _ (st : Setting) (k : ℕ) where
   kept-still w x g′ went i = (g′, subst (λ nd. Inv n (moved s (me .0) w x nd) g′) (sym (upd-self (s .nd) k)) i, went)
 
   -- so at a place that moves no ticket
-  pub kept-stood : {p : Place} → mine st .place ≡ p → still p ≡ true → (w : Word) (x : Thread)
+  pub kept-stood : {p : Place} → mine st .place ≡ p → movesNoTicket p ≡ true → (w : Word) (x : Thread)
       → isAside (x .place) ≡ false
       → Inv n (moved s (me .0) w x (s .nd)) g
       → (h : Ghost) × Inv n (moved s (me .0) w x (upd (s .nd) k (s .nd k))) h × Went me (mine st .place) g (x .place) h

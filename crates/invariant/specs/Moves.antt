@@ -114,38 +114,38 @@ Went me p g p′ g′ =
 
 -- ── the places that move no ticket ──
 
-abbrev pub still : Place → Bool
-still At.Idle = true
-still (At.TryReadLoad _) = true
-still (At.TryReadCas _ _) = true
-still (At.TryWriteOr _) = true
-still (At.ContendLoad _ _) = true
-still (At.ContendCas _ _ _) = true
-still (At.RegisterCas _ _ _) = false
-still (At.CompletedLoad _) = true
-still (At.Park _) = true
-still (At.WalkTail _ _ _) = true
-still (At.WalkNext _ _ _) = true
-still (At.WalkPrev _ _ _ _) = true
-still (At.WalkHead _ _ _) = true
-still (At.QueueCas _ _) = true
-still (At.SplitPrev _ _ _) = true
-still (At.SplitStore _ _ _ _) = false
-still (At.SplitCas _ _ _) = false
-still (At.SplitRestore _ _ _ _) = false
-still (At.TakeCas _ _ _) = false
-still (At.WakePrev _ _) = true
-still (At.WakeStore _ _ _) = false
-still At.ReadUnlockLoad = true
-still (At.ReadUnlockCas _) = true
-still (At.Subtract _ _) = true
-still At.WriteUnlockCas = true
-still (At.ReleaseCas _) = true
-still At.DowngradeCas = true
-still (At.DowngradeSlowCas _) = false
+abbrev pub movesNoTicket : Place → Bool
+movesNoTicket At.Idle = true
+movesNoTicket (At.TryReadLoad _) = true
+movesNoTicket (At.TryReadCas _ _) = true
+movesNoTicket (At.TryWriteOr _) = true
+movesNoTicket (At.ContendLoad _ _) = true
+movesNoTicket (At.ContendCas _ _ _) = true
+movesNoTicket (At.RegisterCas _ _ _) = false
+movesNoTicket (At.CompletedLoad _) = true
+movesNoTicket (At.Park _) = true
+movesNoTicket (At.WalkTail _ _ _) = true
+movesNoTicket (At.WalkNext _ _ _) = true
+movesNoTicket (At.WalkPrev _ _ _ _) = true
+movesNoTicket (At.WalkHead _ _ _) = true
+movesNoTicket (At.QueueCas _ _) = true
+movesNoTicket (At.SplitPrev _ _ _) = true
+movesNoTicket (At.SplitStore _ _ _ _) = false
+movesNoTicket (At.SplitCas _ _ _) = false
+movesNoTicket (At.SplitRestore _ _ _ _) = false
+movesNoTicket (At.TakeCas _ _ _) = false
+movesNoTicket (At.WakePrev _ _) = true
+movesNoTicket (At.WakeStore _ _ _) = false
+movesNoTicket At.ReadUnlockLoad = true
+movesNoTicket (At.ReadUnlockCas _) = true
+movesNoTicket (At.Subtract _ _) = true
+movesNoTicket At.WriteUnlockCas = true
+movesNoTicket (At.ReleaseCas _) = true
+movesNoTicket At.DowngradeCas = true
+movesNoTicket (At.DowngradeSlowCas _) = false
 
 module _ (me : ThreadNumber) (g : Ghost) where
-  stood-at : (p p′ : Place) → still p ≡ true → isAside p′ ≡ false → Went me p g p′ g
+  stood-at : (p p′ : Place) → movesNoTicket p ≡ true → isAside p′ ≡ false → Went me p g p′ g
   unfolding queueEffect
   stood-at At.Idle p′ e f = (refl, f)
   stood-at (At.TryReadLoad _) p′ e f = (refl, f)
@@ -177,7 +177,7 @@ module _ (me : ThreadNumber) (g : Ghost) where
   stood-at (At.DowngradeSlowCas _) p′ e f = never refl e
 
   module _ {q : Place} where
-    pub stood : {p : Place} → q ≡ p → still p ≡ true → (p′ : Place) → isAside p′ ≡ false → Went me q g p′ g
+    pub stood : {p : Place} → q ≡ p → movesNoTicket p ≡ true → (p′ : Place) → isAside p′ ≡ false → Went me q g p′ g
     stood {p} here e p′ f = subst (λ x. Went me x g p′ g) (sym here) (stood-at p p′ e f)
 
     -- ── and those that may ──

@@ -24,13 +24,13 @@ use Rattle.queue.specs.Roles.{Role, none, walk}
 use Rattle.queue.specs.Invariant as Q
 use Rattle.invariant.specs.Table.{handsOff, lookKind, waiter, owning, about, aboutAt, linksOf, leaver}
 use Rattle.invariant.specs.Invariant.{readers, writers, leavers, Count, Real, wakes, Newest, queueOf, Inv}
-use Rattle.invariant.specs.Beside.{owned, real-hands-off}
-use Rattle.invariant.specs.Frames.{moved, summed, land, shown-still, same-newest}
+use Rattle.invariant.specs.Exclusion.{owned, real-hands-off}
+use Rattle.invariant.specs.Frames.{moved, summed, land, viewed-still, same-newest}
 use Rattle.invariant.specs.Moves.{isAside}
 use Rattle.invariant.specs.Kept.{lookAt, Kept, placed, Goes, Setting, mine, goneTo, kept-stood}
-use Rattle.invariant.specs.On.{alike-own, unlinked, stroll, public-look, begun-at}
+use Rattle.invariant.specs.OnQueue.{alike-own, unlinked, goes-on-queue, public-look, begun-at}
 use Rattle.invariant.specs.Words.{agreed}
-use Rattle.invariant.specs.Told.{Settled, settled-waiting, settled-idle}
+use Rattle.invariant.specs.TableFacts.{OwnsNothing, owns-nothing-waiting, owns-nothing-idle}
 
 module _ (st : Setting) (who : Who) (seen : Word) where
   open Setting st using (n, s, g, i, me, tin)
@@ -44,7 +44,7 @@ module _ (st : Setting) (who : Who) (seen : Word) where
     pub again : Q.Inv g (Q.turned (queueOf s) (me .0) none)
         → Inv n (goneTo st (WalkTail (Queue who) (s .word) (toNode (s .word))) (s .nd)) g
     again down =
-        stroll i (me .0) tin (WalkTail (Queue who) (s .word) (toNode (s .word)))
+        goes-on-queue i (me .0) tin (WalkTail (Queue who) (s .word) (toNode (s .word)))
         (rw is (alike-own who seen (s .word) r _ ok true refl refl))
         (s .nd) (linksOf (s .nd)) (unlinked (s .nd)) (λ x _. real-hands-off i x) begun
       where
@@ -58,7 +58,7 @@ module _ (st : Setting) (who : Who) (seen : Word) where
 
     -- ── QUEUE_LOCKED is cleared ──
 
-    module _ (p : Place) (l : Settled (about p) (mine st .holding) (waiter who))
+    module _ (p : Place) (l : OwnsNothing (about p) (mine st .holding) (waiter who))
         (plain : downgraded (s .word) ≡ false) (queue : Q.Inv g (Q.turned (queueOf s) (me .0) (about p .role)))
         (sees : locked (s .word) ≡ false → g .taken (me .0) .beg < g .taken (me .0) .end) where
       abbrev w : Word
@@ -90,7 +90,7 @@ module _ (st : Setting) (who : Who) (seen : Word) where
 
       pub unown : Inv n (moved s (me .0) w (placed (mine st) p) (s .nd)) g
       unown = land i g (me .0) w (placed (mine st) p) (s .nd) (record {
-        queue = shown-still s (me .0) (placed (mine st) p) w (rw (l .registered, is)) queue;
+        queue = viewed-still s (me .0) (placed (mine st) p) w (rw (l .registered, is)) queue;
         newest = λ e. same-newest w (clear-node QUEUE-LOCKED refl (s .word)) (i .newest has-queue);
         nobody = λ e. never e still-queued;
         handed = λ e d. never still-plain d;
@@ -156,11 +156,11 @@ module _ (st : Setting) (who : Who) (seen : Word) where
           → Inv n (moved s (me .0) (clearQueueLocked (s .word)) (placed (mine st) (afterQueue o .place)) (s .nd)) g
       ends (Waiter writer) z same =
           unown none (handsOff seen) is (CompletedLoad writer)
-          (settled-waiting (ap waiter z) (rw is at (i .holding (me .0))))
+          (owns-nothing-waiting (ap waiter z) (rw is at (i .holding (me .0))))
           (ap downgraded same ∙ flags .1) (put-down (rw is refl)) (λ e. never e (ap locked same ∙ flags .0))
       ends Leaver z same =
           unown none (handsOff seen) is Idle
-          (settled-idle (ap waiter z))
+          (owns-nothing-idle (ap waiter z))
           (ap downgraded same ∙ flags .1) (put-down (rw is refl)) (λ e. never e (ap locked same ∙ flags .0))
 
       near : (o : Who) → isAside (afterQueue o .place) ≡ false

@@ -25,26 +25,26 @@ use Rattle.queue.specs.Tests.{never}
 use Rattle.queue.specs.Sums.{sum-le}
 use Rattle.queue.specs.Roles.{walk, looks}
 use Rattle.queue.specs.Invariant as Q
-use Rattle.invariant.specs.Table.{off, reads, about, aboutAt, Reads, leaver}
+use Rattle.invariant.specs.Table.{offQueue, reads, about, aboutAt, Reads, leaver}
 use Rattle.invariant.specs.Invariant.{readers, writers, leavers, Hold, Unqueued, empty, written, read, queueOf}
 use Rattle.invariant.specs.Invariant.{Inv}
-use Rattle.invariant.specs.Frames.{stay, shown-still}
-use Rattle.invariant.specs.Moves.{still}
+use Rattle.invariant.specs.Frames.{stay, viewed-still}
+use Rattle.invariant.specs.Moves.{movesNoTicket}
 use Rattle.invariant.specs.Kept.{lookAt, Kept, placed, Goes, Setting, mine, goneTo, kept-stood}
-use Rattle.invariant.specs.Off.{is-off, Down, off-down, hop, Ended, finish}
-use Rattle.invariant.specs.Ends.{ended-bare}
+use Rattle.invariant.specs.OffQueue.{off-queue, RoleDown, role-down, goes-off-queue, Ended, ends-call}
+use Rattle.invariant.specs.CallEnds.{ended-bare}
 use Rattle.invariant.specs.Words.{Plain, agreed, word-is, readers-word, fewer-word}
-use Rattle.invariant.specs.On.{begun-at}
+use Rattle.invariant.specs.OnQueue.{begun-at}
 
 module _ (st : Setting) (k : ℕ) (p : Place) (here : mine st .place ≡ p)
-    (told : about p ≡ off reads false false false) (unmoved : still p ≡ true) where
+    (told : about p ≡ offQueue reads false false false) (unmoved : movesNoTicket p ≡ true) where
   open Setting st using (n, s, g, i, me, tin)
 
-  is : aboutAt s (me .0) ≡ off reads false false false
+  is : aboutAt s (me .0) ≡ offQueue reads false false false
   is = ap about here ∙ told
 
-  down : Down s g (me .0)
-  down = off-down i (me .0) (rw is (is-off _ _ _ _))
+  down : RoleDown s g (me .0)
+  down = role-down i (me .0) (rw is (off-queue _ _ _ _))
 
   holds : Reads (mine st .holding)
   holds = rw is at (i .holding (me .0))
@@ -77,7 +77,7 @@ module _ (st : Setting) (k : ℕ) (p : Place) (here : mine st .place ≡ p)
   walks q d = stay n s g (me .0) (placed (mine st) (WalkTail ReadUnlock (s .word) (toNode (s .word)))) (s .nd) i
       (record {
         queue =
-            shown-still s (me .0) (placed (mine st) (WalkTail ReadUnlock (s .word) (toNode (s .word)))) (s .word)
+            viewed-still s (me .0) (placed (mine st) (WalkTail ReadUnlock (s .word) (toNode (s .word)))) (s .word)
             (rw is) begun;
         inside = tin;
         holding = refl;
@@ -104,7 +104,7 @@ module _ (st : Setting) (k : ℕ) (p : Place) (here : mine st .place ≡ p)
     where
       on : Inv n (goneTo st (ReadUnlockCas (s .word)) (s .nd)) g
       on =
-          hop i (me .0) tin down (ReadUnlockCas (s .word)) (is-off _ _ _ _) holds (never refl) (sym left)
+          goes-off-queue i (me .0) tin down (ReadUnlockCas (s .word)) (off-queue _ _ _ _) holds (never refl) (sym left)
           (rw is (never refl))
 
       by : (q d b : Bool) → queued (s .word) ≡ q → downgraded (s .word) ≡ d → ltb (s .word .0) (SINGLE + LOCKED) ≡ b →
@@ -196,10 +196,10 @@ module _ (st : Setting) (k : ℕ) (p : Place) (here : mine st .place ≡ p)
           Kept st k (readUnlockCasBy (lookAt st k)
           (pick q (pick d (To (clearLocked (clearDowngraded (s .word)))) Contended)
           (pick b Refused (To (fewer (s .word))))))
-      by true true b q d e = kept-stood st k here unmoved _ _ refl (finish i (me .0) tin down _ _ (retracted q d))
+      by true true b q d e = kept-stood st k here unmoved _ _ refl (ends-call i (me .0) tin down _ _ (retracted q d))
       by true false b q d e = judged
       by false d′ true q d e = judged
-      by false d′ false q d e = kept-stood st k here unmoved _ _ refl (finish i (me .0) tin down _ _ (left-word q))
+      by false d′ false q d e = kept-stood st k here unmoved _ _ refl (ends-call i (me .0) tin down _ _ (left-word q))
 
 module _ (st : Setting) (k : ℕ) where
   open Setting st using (n, s, g, i, me, tin)

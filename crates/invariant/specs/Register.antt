@@ -21,7 +21,7 @@ use Rattle.state.specs.declared.place.Place.the-variants.{RegisterCas, Complete
 use Rattle.acquire.specs.LockContended.{afterRegister, registerCasOf}
 use Rattle.queue.specs.Tests.{never, not-false}
 use Rattle.queue.specs.Updates.{upd, upd-same, upd-other}
-use Rattle.queue.specs.Tickets.{registered, takenOf}
+use Rattle.queue.specs.Tickets.{registered, takenBy}
 use Rattle.queue.specs.Roles.{none, ready, walk, filled, ReadyAt}
 use Rattle.queue.specs.Invariant as Q
 use Rattle.queue.specs.Registering
@@ -29,13 +29,13 @@ use Rattle.invariant.specs.Table.{handsOff, lookKind, About, filling, ab
 use Rattle.invariant.specs.Table.{Free, Allowed, weight, leaver}
 use Rattle.invariant.specs.Invariant.{readers, writers, leavers, Hold, Unqueued, empty, written, read, Locked}
 use Rattle.invariant.specs.Invariant.{by-writer, by-readers, Count, Real, Newest, queueOf, Inv}
-use Rattle.invariant.specs.Beside.{unowned}
+use Rattle.invariant.specs.Exclusion.{unowned}
 use Rattle.invariant.specs.Frames.{moved, waits-as, view, summed, land}
 use Rattle.invariant.specs.Moves.{registers-waits, registers-walks, unregistered}
 use Rattle.invariant.specs.Kept.{lookAt, Kept, kept-still, placed, Goes, Setting, mine}
-use Rattle.invariant.specs.Contend.{Contends, contend}
+use Rattle.invariant.specs.Contend.{Contends, kept-contend}
 use Rattle.invariant.specs.Words.{agreed, word-is}
-use Rattle.invariant.specs.On.{public-look, begun-at}
+use Rattle.invariant.specs.OnQueue.{public-look, begun-at}
 
 -- where a registered thread goes on
 pub record Joins (a : About) : Type 0 where
@@ -106,7 +106,7 @@ module _ (st : Setting) (writer : Bool) (reloads : ℕ)
   first-counts : queued (s .word) ≡ false → 1 ≤ readers n s → s .nd (suc (me .0)) .next .0 ≡ SINGLE * readers n s
   first-counts q some = by (i .count .bare q)
     where
-      own : ReadyAt (takenOf g (me .0)) (linksOf (s .nd)) (suc (me .0)) true (withoutFlags (s .word) .0)
+      own : ReadyAt (takenBy g (me .0)) (linksOf (s .nd)) (suc (me .0)) true (withoutFlags (s .word) .0)
       own = rw (role-is false q) at (i .queue .know (me .0))
 
       by : Unqueued (s .word) (readers n s) (writers n s) (leavers n s)
@@ -338,7 +338,7 @@ module _ (st : Setting) (writer : Bool) (reloads : ℕ) where
       → Goes st (suc (me .0)) (λ v. registerCasOf v writer reloads seen)
   kept-register-cas seen here = pick-both (Kept st (suc (me .0))) (agreesOf (lookAt st (suc (me .0))) seen) _ _
       (λ e. by seen (agreed (lookAt st (suc (me .0))) seen e) here)
-      (λ _. contend st (unready seen here) writer reloads)
+      (λ _. kept-contend st (unready seen here) writer reloads)
     where
       by : (seen : Word) → s .word ≡ seen → mine st .place ≡ RegisterCas writer reloads seen
           → Kept st (suc (me .0))

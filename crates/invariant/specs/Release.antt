@@ -27,16 +27,17 @@ use Rattle.queue.specs.Tests.{never, not-false}
 use Rattle.queue.specs.Sums.{sum-le}
 use Rattle.queue.specs.Roles.{walk}
 use Rattle.queue.specs.Invariant as Q
-use Rattle.invariant.specs.Table.{handsOff, lookKind, off, writes, notRead, about, Lock, aboutAt, Writes, leaver}
+use Rattle.invariant.specs.Table.{handsOff, lookKind, offQueue, writes, notRead, about, Lock, aboutAt, Writes}
+use Rattle.invariant.specs.Table.{leaver}
 use Rattle.invariant.specs.Invariant.{readers, writers, leavers, Hold, empty, Real, Newest, queueOf, Inv}
-use Rattle.invariant.specs.Beside.{needs-some}
-use Rattle.invariant.specs.Frames.{moved, summed, land, shown-still, same-newest}
+use Rattle.invariant.specs.Exclusion.{needs-some}
+use Rattle.invariant.specs.Frames.{moved, summed, land, viewed-still, same-newest}
 use Rattle.invariant.specs.Kept.{lookAt, Kept, Goes, Setting, mine, kept-stood}
-use Rattle.invariant.specs.Off.{is-off, Down, off-down, hop, Ended, finish}
-use Rattle.invariant.specs.Ends.{ended-bare}
-use Rattle.invariant.specs.Sole.{sole, sole-bare, sole-plain}
+use Rattle.invariant.specs.OffQueue.{off-queue, RoleDown, role-down, goes-off-queue, Ended, ends-call}
+use Rattle.invariant.specs.CallEnds.{ended-bare}
+use Rattle.invariant.specs.OneHolder.{one-holder, one-holder-bare, one-holder-plain}
 use Rattle.invariant.specs.Words.{agreed, word-is}
-use Rattle.invariant.specs.On.{public-look, begun-at}
+use Rattle.invariant.specs.OnQueue.{public-look, begun-at}
 
 -- a thread that writes counts
 pub writer-counts : (n : ℕ) (s : Lock) (t : ℕ) → t < n → Writes (s .th t .holding) → 1 ≤ writers n s + leavers n s
@@ -48,17 +49,17 @@ module _ (st : Setting) (k : ℕ) where
   pub kept-write-unlock-cas : mine st .place ≡ WriteUnlockCas → Goes st k (λ v. writeUnlockCasOf v)
   kept-write-unlock-cas here = pick-both (Kept st k) (eqb (s .word .0) LOCKED) _ _
       (λ e. kept-stood st k here refl _ _ refl
-      (finish i (me .0) tin down (word 0) _ (released (eqb-true (s .word .0) LOCKED e))))
+      (ends-call i (me .0) tin down (word 0) _ (released (eqb-true (s .word .0) LOCKED e))))
       (λ e. kept-stood st k here refl _ _ refl
-      (hop i (me .0) tin down (ReleaseCas (s .word)) (is-off _ _ _ _) (holds .reads)
+      (goes-off-queue i (me .0) tin down (ReleaseCas (s .word)) (off-queue _ _ _ _) (holds .reads)
       (λ _. has-queue (eqb-false (s .word .0) LOCKED e)) (rw (is, holds .reads, holds .writes))
       (rw is (never refl))))
     where
-      is : aboutAt s (me .0) ≡ off writes false false false
+      is : aboutAt s (me .0) ≡ offQueue writes false false false
       is = ap about here
 
-      down : Down s g (me .0)
-      down = off-down i (me .0) (rw is (is-off _ _ _ _))
+      down : RoleDown s g (me .0)
+      down = role-down i (me .0) (rw is (off-queue _ _ _ _))
 
       holds : Writes (mine st .holding)
       holds = rw is at (i .holding (me .0))
@@ -67,7 +68,7 @@ module _ (st : Setting) (k : ℕ) where
       some = writer-counts n s (me .0) tin holds
 
       has-queue : s .word .0 ≢ LOCKED → queued (s .word) ≡ true
-      has-queue ne = not-false (queued (s .word)) (λ q. ne (sole-bare i some q .0))
+      has-queue ne = not-false (queued (s .word)) (λ q. ne (one-holder-bare i some q .0))
 
       released : s .word .0 ≡ LOCKED → Ended i (me .0) tin down (word 0) (releasedWrite (mine st .holding))
       released e =
@@ -84,16 +85,16 @@ module _ (st : Setting) (k : ℕ) where
           q = ap queued (word-is (s .word) LOCKED e)
 
           only : (s .word .0 ≡ LOCKED) × (readers n s ≡ 0) × (writers n s ≡ 1) × (leavers n s ≡ 0)
-          only = sole-bare i some q
+          only = one-holder-bare i some q
 
   -- ── release ──
 
   module _ (seen : Word) (here : mine st .place ≡ ReleaseCas seen) where
-    is : aboutAt s (me .0) ≡ off notRead true true false
+    is : aboutAt s (me .0) ≡ offQueue notRead true true false
     is = ap about here
 
-    down : Down s g (me .0)
-    down = off-down i (me .0) (rw is (is-off _ _ _ _))
+    down : RoleDown s g (me .0)
+    down = role-down i (me .0) (rw is (off-queue _ _ _ _))
 
     has-queue : queued (s .word) ≡ true
     has-queue = i .needs (me .0) (rw is refl)
@@ -119,9 +120,9 @@ module _ (st : Setting) (k : ℕ) where
         → l + leaver (mine st) ≡ leavers n s → Hold r v l 0 0 0
     none-left r v l er ev
         el = record {
-          reads = omega (arith, sole i some, reads-not);
-          writes = omega (arith, sole i some, own);
-          leaves = omega (arith, sole i some, own);
+          reads = omega (arith, one-holder i some, reads-not);
+          writes = omega (arith, one-holder i some, own);
+          leaves = omega (arith, one-holder i some, own);
         }
 
     -- the owner of the queue sees to it
@@ -140,12 +141,12 @@ module _ (st : Setting) (k : ℕ) where
         handed = λ _ e. never (clear-has LOCKED refl (s .word)) e;
         held = λ _ e. never (clear-has LOCKED refl (s .word)) e;
       };
-      unreal = λ _ _ r e. omega (arith, sole i some, reads-not);
+      unreal = λ _ _ r e. omega (arith, one-holder i some, reads-not);
       seen-to = λ _ _ e. never e (clear-keeps LOCKED QUEUE-LOCKED refl (s .word) ∙ l);
     }
       where
         plain : downgraded (clearLocked (s .word)) ≡ false
-        plain = clear-keeps LOCKED DOWNGRADED refl (s .word) ∙ sole-plain i some has-queue
+        plain = clear-keeps LOCKED DOWNGRADED refl (s .word) ∙ one-holder-plain i some has-queue
 
     -- or the thread itself, as the new owner
     abbrev w : Word
@@ -170,7 +171,7 @@ module _ (st : Setting) (k : ℕ) where
       plain : downgraded w ≡ false
       plain =
           set-keeps QUEUE-LOCKED DOWNGRADED refl (clearLocked (s .word))
-          ∙ clear-keeps LOCKED DOWNGRADED refl (s .word) ∙ sole-plain i some has-queue
+          ∙ clear-keeps LOCKED DOWNGRADED refl (s .word) ∙ one-holder-plain i some has-queue
 
       newest : Newest g w
       newest =
@@ -186,13 +187,13 @@ module _ (st : Setting) (k : ℕ) where
             arith,
             r .some,
             summed s (me .0) next (s .nd) n tin (λ y. readsOf (y .holding)),
-            sole i some,
+            one-holder i some,
             reads-not,
           )
 
       owns : Inv n (moved s (me .0) w next (s .nd)) g
       owns = land i g (me .0) w next (s .nd) (record {
-        queue = shown-still s (me .0) next w (rw is) begun;
+        queue = viewed-still s (me .0) next w (rw is) begun;
         newest = λ e. newest;
         nobody = λ e. never e still-queued;
         handed = λ _ e. never plain e;
@@ -232,7 +233,7 @@ module _ (st : Setting) (k : ℕ) where
             (releasedWrite (mine st .holding))
             (pick l (end Done)
             (walkFrom (Queue Leaver) (pick l (clearLocked (s .word)) (setQueueLocked (clearLocked (s .word)))))))
-        by true e = kept-stood st k here refl _ _ refl (finish i (me .0) tin down _ _ (left-to-owner e))
+        by true e = kept-stood st k here refl _ _ refl (ends-call i (me .0) tin down _ _ (left-to-owner e))
         by false e = kept-stood st k here refl _ _ refl (owns e)
 
   pub kept-release-cas : (seen : Word) → mine st .place ≡ ReleaseCas seen → Goes st k (λ v. releaseCasOf v seen)
@@ -241,5 +242,5 @@ module _ (st : Setting) (k : ℕ) where
       Kept st k (writesTo (lookAt st k) (releasedTo x) (releasedWrite (mine st .holding))
       (afterRelease x (releasedTo x)))) (agreed (lookAt st k) seen e) (succeeds seen here))
       (λ _. kept-stood st k here refl _ _ refl
-      (hop i (me .0) tin (down seen here) (ReleaseCas (s .word)) (is-off _ _ _ _) (reads-not seen here)
+      (goes-off-queue i (me .0) tin (down seen here) (ReleaseCas (s .word)) (off-queue _ _ _ _) (reads-not seen here)
       (λ _. has-queue seen here) (rw (is seen here)) (rw (is seen here) (never refl))))

@@ -25,7 +25,7 @@ use Rattle.state.specs.declared.place.Who.the-variants.{Waiter, Leaver}
 use Rattle.unlock.specs.UnlockQueue.{splitPrevOf, splitStoreOf, splitCasOf, splitRestoreOf}
 use Rattle.queue.specs.Tests.{never}
 use Rattle.queue.specs.Updates.{upd, upd-same}
-use Rattle.queue.specs.Tickets.{asided, restored, queueOf as ticketsOf, takenOf}
+use Rattle.queue.specs.Tickets.{asided, restored, ticketsOf, takenBy}
 use Rattle.queue.specs.Queue.{setTl}
 use Rattle.queue.specs.Roles.{Role, walk, head, split, aside, undo, filled, changes, SplitAt, AsideAt, UndoAt}
 use Rattle.queue.specs.Invariant as Q
@@ -34,14 +34,14 @@ use Rattle.queue.specs.Taking
 use Rattle.invariant.specs.Table.{handsOff, unheld, lookKind, mayWake, owning, about, aboutAt, linksOf, roleOf}
 use Rattle.invariant.specs.Table.{Free, Allowed}
 use Rattle.invariant.specs.Invariant.{Real, Newest, queueOf, Inv}
-use Rattle.invariant.specs.Beside.{owned, is-queued, lonely}
+use Rattle.invariant.specs.Exclusion.{owned, is-queued, lonely}
 use Rattle.invariant.specs.Frames.{moved, glide}
 use Rattle.invariant.specs.Moves.{sets-aside, takes-tail, split-fails, restores-tail}
 use Rattle.invariant.specs.Kept.{lookAt, Kept, kept-still, placed, Goes, Setting, mine, goneTo, kept-stood}
-use Rattle.invariant.specs.On.{Alike, alike-own, Linked, unlinked, linked-tail, seen-as, stroll}
+use Rattle.invariant.specs.OnQueue.{Alike, alike-own, Linked, unlinked, linked-tail, seen-as, goes-on-queue}
 use Rattle.invariant.specs.Owner.{unown}
 use Rattle.invariant.specs.Words.{agreed}
-use Rattle.invariant.specs.Told.{settled-waking}
+use Rattle.invariant.specs.TableFacts.{owns-nothing-waking}
 
 -- who holds nothing may wake
 pub may-wake : (who : Who) (h : Holding) → Free h → Allowed (mayWake who) h
@@ -63,7 +63,7 @@ module _ (st : Setting) (who : Who) (seen : Word) (tail : NodeNumber) where
       → filled r′ ≡ false → ok′ ≡ true → Q.Inv g (Q.turned (queueOf s) (me .0) r′)
       → Inv n (goneTo st p (s .nd)) g
   on-to r r′ ok ok′ is p on f e q =
-      stroll i (me .0) tin p (rw (is, on) (alike-own who seen seen r r′ ok ok′ f e)) (s .nd) (linksOf (s .nd))
+      goes-on-queue i (me .0) tin p (rw (is, on) (alike-own who seen seen r r′ ok ok′ f e)) (s .nd) (linksOf (s .nd))
       (unlinked (s .nd)) (λ x _. ap handsOff (ap (λ a. a .seen) on) ∙ (rw is at (i .calm x (me .0))) refl) (rw on q)
 
   pub kept-split-prev : mine st .place ≡ SplitPrev who seen tail → Goes st (tail .0) (λ v. splitPrevOf v who seen tail)
@@ -156,7 +156,7 @@ module _ (st : Setting) (who : Who) (seen : Word) (tail : NodeNumber) where
       alike : Alike (aboutAt s (me .0)) (about (SplitCas who seen tail))
       alike = rw is (alike-own who seen seen _ _ (unheld seen) (unheld seen) refl (rw is at (i .fits (me .0))))
 
-      knows : SplitAt (ticketsOf g) (takenOf g (me .0)) (linksOf (s .nd)) (toNode seen .0) (tail .0) (prev .0)
+      knows : SplitAt (ticketsOf g) (takenBy g (me .0)) (linksOf (s .nd)) (toNode seen .0) (tail .0) (prev .0)
       knows = rw is at (i .queue .know (me .0))
 
       two : suc (g .lo) < g .hi
@@ -181,14 +181,14 @@ module _ (st : Setting) (who : Who) (seen : Word) (tail : NodeNumber) where
       fit : unheld seen ≡ true
       fit = rw is at (i .fits (me .0))
 
-      knows : AsideAt (ticketsOf g) (takenOf g (me .0)) (linksOf (s .nd)) (toNode seen .0) (tail .0)
+      knows : AsideAt (ticketsOf g) (takenBy g (me .0)) (linksOf (s .nd)) (toNode seen .0) (tail .0)
       knows = rw is at (i .queue .know (me .0))
 
       splits : s .word ≡ seen
           → Inv n (moved s (me .0) (clearQueueLocked (s .word)) (placed (mine st) (WakeStore who tail noNode))
           (s .nd)) g
       splits same = unown st who seen (aside (toNode seen .0) (tail .0)) (unheld seen) is (WakeStore who tail noNode)
-          (settled-waking who _ refl (may-wake who (mine st .holding) (rw is at (i .holding (me .0)))))
+          (owns-nothing-waking who _ refl (may-wake who (mine st .holding) (rw is at (i .holding (me .0)))))
           (ap downgraded same ∙ unheld-flags (locked seen) (downgraded seen) fit .1)
           (Taking.commit (i .queue) (me .0) (toNode seen .0) (tail .0) (ap (λ a. a .role) is))
           (λ _. omega (arith, knows .one, knows .end))
@@ -246,7 +246,7 @@ module _ (st : Setting) (who : Who) (seen : Word) (tail : NodeNumber) where
           (setTl (linksOf (s .nd)) (toNode seen .0) (tail .0))
       link = linked-tail (s .nd) (toNode seen .0) tail
 
-      knows : UndoAt (ticketsOf g) (takenOf g (me .0)) (linksOf (s .nd)) (toNode seen .0) (tail .0) (toNode reported .0)
+      knows : UndoAt (ticketsOf g) (takenBy g (me .0)) (linksOf (s .nd)) (toNode seen .0) (tail .0) (toNode reported .0)
       knows = rw is at (i .queue .know (me .0))
 
       back : Q.Inv (restored g (me .0) (g .taken (me .0) .beg))

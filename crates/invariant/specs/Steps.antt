@@ -25,10 +25,10 @@ use Rattle.state.specs.declared.view.Mark.the-variants.{Missing}
 use Rattle.lock.specs.Advance.{advanceOf}
 use Rattle.lock.specs.Step.{haltedOf, markedOf}
 use Rattle.queue.specs.Tickets.{Ghost}
-use Rattle.queue.specs.Reads.{All, Waits, named-wait}
+use Rattle.queue.specs.Reads.{EachNode, NodeWaits, named-wait}
 use Rattle.invariant.specs.Table.{about, Lock, waitOf}
 use Rattle.invariant.specs.Invariant.{Inv}
-use Rattle.invariant.specs.Beside.{inside}
+use Rattle.invariant.specs.Exclusion.{inside}
 use Rattle.invariant.specs.Kept.{Goes, Setting, mine}
 use Rattle.invariant.specs.FirstTry.{kept-try-read-load, kept-try-read-cas, kept-try-write-or}
 use Rattle.invariant.specs.Contend.{kept-contend-load, kept-contend-cas}
@@ -47,16 +47,16 @@ use Rattle.invariant.specs.Downgrade.{kept-downgrade-cas, kept-downgrade
 -- ── which node a step touches ──
 
 module _ {n : ℕ} {s : Lock} {g : Ghost} (i : Inv n s g) where
-  abbrev pub Waiting : ℕ → Type 0
-  Waiting k = waitOf (s .th) (s .nd) k ≡ true
+  abbrev pub WaitingNode : ℕ → Type 0
+  WaitingNode k = waitOf (s .th) (s .nd) k ≡ true
 
   -- every node number that a place carries waits
-  names : (t : ℕ) (p : Place) → s .th t .place ≡ p → All (Waits (i .queue) t) (about p .role)
-  names t p here = subst (λ q. All (Waits (i .queue) t) (about q .role)) here (named-wait (i .queue) t)
+  names : (t : ℕ) (p : Place) → s .th t .place ≡ p → EachNode (NodeWaits (i .queue) t) (about p .role)
+  names t p here = subst (λ q. EachNode (NodeWaits (i .queue) t) (about q .role)) here (named-wait (i .queue) t)
 
   -- its own, or one that waits
   pub touches : (me : ThreadNumber) (p : Place) → s .th (me .0) .place ≡ p
-      → (touchedOf (accessOf me p) me .0 ≡ me .0 + 1) ⊎ Waiting (touchedOf (accessOf me p) me .0)
+      → (touchedOf (accessOf me p) me .0 ≡ me .0 + 1) ⊎ WaitingNode (touchedOf (accessOf me p) me .0)
   unfolding accessOf
   touches me At.Idle here = inl refl
   touches me (At.TryReadLoad _) here = inl refl
@@ -89,7 +89,7 @@ module _ {n : ℕ} {s : Lock} {g : Ghost} (i : Inv n s g) where
   touches me (At.DowngradeSlowCas _) here = inl refl
 
   -- the tail whose writer mark is read waits too
-  pub marks : (t : ℕ) (p : Place) → s .th t .place ≡ p → (markedOf p ≡ none) ⊎ Waiting (markedOf p .0)
+  pub marks : (t : ℕ) (p : Place) → s .th t .place ≡ p → (markedOf p ≡ none) ⊎ WaitingNode (markedOf p .0)
   unfolding markedOf
   marks t At.Idle here = inl refl
   marks t (At.TryReadLoad _) here = inl refl
@@ -121,7 +121,7 @@ module _ {n : ℕ} {s : Lock} {g : Ghost} (i : Inv n s g) where
   marks t (At.DowngradeSlowCas _) here = inl refl
 
   -- a node that waits has a slot
-  pub slot-waiting : (k : NodeNumber) → Waiting (k .0) → (j : ℕ) × (slotOf k n ≡ At j)
+  pub slot-waiting : (k : NodeNumber) → WaitingNode (k .0) → (j : ℕ) × (slotOf k n ≡ At j)
   slot-waiting k w =
       let x : Waiter-of s (k .0) = waiter-of s (k .0) w in
       let l : x .thread < n = inside i (x .thread) (λ a. a .registered) refl (x .registered) in (
@@ -145,43 +145,46 @@ module _ (st : Setting) (few : st .n ≤ threadLimit) where
   own p = subst (λ k. Goes st k (λ v. advanceOf v p)) (sym (add-one (me .0)))
 
   -- the rule of every place keeps the invariant, where the step is not halted and a walk's tail has its mark
-  pub kept-at : (p : Place) → mine st .place ≡ p → (token : Bool)
+  pub kept-everywhere : (p : Place) → mine st .place ≡ p → (token : Bool)
       → haltedOf (accessOf me p .kind) token (st .fails) ≡ Fine
       → ((k : Walk) (seen : Word) (tail : NodeNumber) → p ≡ At.WalkHead k seen tail → st .mark ≡ Missing → ⊥)
       → Goes st (touchedOf (accessOf me p) me .0) (λ v. advanceOf v p)
   unfolding accessOf advanceOf
-  kept-at At.Idle here token fine marked = absurd (let bad : _≡_ {A = ℕ} 0 1 = cc in omega arith)
-  kept-at (At.TryReadLoad blocking) here token fine marked = kept-try-read-load st _ blocking here
-  kept-at (At.TryReadCas blocking seen) here token fine marked = kept-try-read-cas st _ blocking seen here
-  kept-at (At.TryWriteOr blocking) here token fine marked = kept-try-write-or st _ blocking here
-  kept-at (At.ContendLoad writer reloads) here token fine marked =
+  kept-everywhere At.Idle here token fine marked = absurd (let bad : _≡_ {A = ℕ} 0 1 = cc in omega arith)
+  kept-everywhere (At.TryReadLoad blocking) here token fine marked = kept-try-read-load st _ blocking here
+  kept-everywhere (At.TryReadCas blocking seen) here token fine marked = kept-try-read-cas st _ blocking seen here
+  kept-everywhere (At.TryWriteOr blocking) here token fine marked = kept-try-write-or st _ blocking here
+  kept-everywhere (At.ContendLoad writer reloads) here token fine marked =
       own (At.ContendLoad writer reloads) (kept-contend-load st writer reloads here)
-  kept-at (At.ContendCas writer reloads seen) here token fine marked =
+  kept-everywhere (At.ContendCas writer reloads seen) here token fine marked =
       own (At.ContendCas writer reloads seen) (kept-contend-cas st writer reloads seen here)
-  kept-at (At.RegisterCas writer reloads seen) here token fine marked =
+  kept-everywhere (At.RegisterCas writer reloads seen) here token fine marked =
       own (At.RegisterCas writer reloads seen) (kept-register-cas st writer reloads seen here)
-  kept-at (At.CompletedLoad writer) here token fine marked =
+  kept-everywhere (At.CompletedLoad writer) here token fine marked =
       own (At.CompletedLoad writer) (kept-completed-load st writer here)
-  kept-at (At.Park writer) here token fine marked = own (At.Park writer) (kept-park st writer here)
-  kept-at (At.WalkTail k seen current) here token fine marked = kept-walk-tail st k seen current here
-  kept-at (At.WalkNext k seen current) here token fine marked = kept-walk-next st k seen current here
-  kept-at (At.WalkPrev k seen current next) here token fine marked = kept-walk-prev st k seen current next here
-  kept-at (At.WalkHead k seen tail) here token fine marked = kept-walk-head st k seen tail here (marked k seen tail refl)
-  kept-at (At.QueueCas who seen) here token fine marked = own (At.QueueCas who seen) (kept-queue-cas st who seen here)
-  kept-at (At.SplitPrev who seen tail) here token fine marked = kept-split-prev st who seen tail here
-  kept-at (At.SplitStore who seen tail prev) here token fine marked = kept-split-store st who seen tail prev here
-  kept-at (At.SplitCas who seen tail) here token fine marked =
+  kept-everywhere (At.Park writer) here token fine marked = own (At.Park writer) (kept-park st writer here)
+  kept-everywhere (At.WalkTail k seen current) here token fine marked = kept-walk-tail st k seen current here
+  kept-everywhere (At.WalkNext k seen current) here token fine marked = kept-walk-next st k seen current here
+  kept-everywhere (At.WalkPrev k seen current next) here token fine marked = kept-walk-prev st k seen current next here
+  kept-everywhere (At.WalkHead k seen tail) here token fine marked =
+      kept-walk-head st k seen tail here (marked k seen tail refl)
+  kept-everywhere (At.QueueCas who seen) here token fine marked =
+      own (At.QueueCas who seen) (kept-queue-cas st who seen here)
+  kept-everywhere (At.SplitPrev who seen tail) here token fine marked = kept-split-prev st who seen tail here
+  kept-everywhere (At.SplitStore who seen tail prev) here token fine marked =
+      kept-split-store st who seen tail prev here
+  kept-everywhere (At.SplitCas who seen tail) here token fine marked =
       own (At.SplitCas who seen tail) (kept-split-cas st who seen tail here)
-  kept-at (At.SplitRestore who seen tail reported) here token fine marked =
+  kept-everywhere (At.SplitRestore who seen tail reported) here token fine marked =
       kept-split-restore st who seen tail reported here
-  kept-at (At.TakeCas who seen tail) here token fine marked =
+  kept-everywhere (At.TakeCas who seen tail) here token fine marked =
       own (At.TakeCas who seen tail) (kept-take-cas st who seen tail here)
-  kept-at (At.WakePrev who current) here token fine marked = kept-wake-prev st few who current here
-  kept-at (At.WakeStore who current prev) here token fine marked = kept-wake-store st few who current prev here
-  kept-at At.ReadUnlockLoad here token fine marked = kept-read-unlock-load st _ here
-  kept-at (At.ReadUnlockCas seen) here token fine marked = kept-read-unlock-cas st _ seen here
-  kept-at (At.Subtract seen tail) here token fine marked = kept-subtract st seen tail here
-  kept-at At.WriteUnlockCas here token fine marked = kept-write-unlock-cas st _ here
-  kept-at (At.ReleaseCas seen) here token fine marked = kept-release-cas st _ seen here
-  kept-at At.DowngradeCas here token fine marked = kept-downgrade-cas st _ here
-  kept-at (At.DowngradeSlowCas seen) here token fine marked = kept-downgrade-slow-cas st _ seen here
+  kept-everywhere (At.WakePrev who current) here token fine marked = kept-wake-prev st few who current here
+  kept-everywhere (At.WakeStore who current prev) here token fine marked = kept-wake-store st few who current prev here
+  kept-everywhere At.ReadUnlockLoad here token fine marked = kept-read-unlock-load st _ here
+  kept-everywhere (At.ReadUnlockCas seen) here token fine marked = kept-read-unlock-cas st _ seen here
+  kept-everywhere (At.Subtract seen tail) here token fine marked = kept-subtract st seen tail here
+  kept-everywhere At.WriteUnlockCas here token fine marked = kept-write-unlock-cas st _ here
+  kept-everywhere (At.ReleaseCas seen) here token fine marked = kept-release-cas st _ seen here
+  kept-everywhere At.DowngradeCas here token fine marked = kept-downgrade-cas st _ here
+  kept-everywhere (At.DowngradeSlowCas seen) here token fine marked = kept-downgrade-slow-cas st _ seen here

@@ -23,18 +23,18 @@ use Rattle.state.specs.declared.place.Walk.the-variants.{ReadUnlock}
 use Rattle.release.specs.ReadUnlock.{subtractOf}
 use Rattle.queue.specs.Tests.{never, not-false}
 use Rattle.queue.specs.Updates.{upd, upd-same, upd-cases, map-upd, map-keep}
-use Rattle.queue.specs.Tickets.{queueOf as ticketsOf, takenOf}
+use Rattle.queue.specs.Tickets.{ticketsOf, takenBy}
 use Rattle.queue.specs.Queue.{setNx}
 use Rattle.queue.specs.Roles.{head, filled, looks, HeadAt}
 use Rattle.queue.specs.Walking
 use Rattle.invariant.specs.Table.{walking, about, aboutAt, linksOf, waitOf, Reads, Allowed, leaver}
 use Rattle.invariant.specs.Invariant.{readers, writers, leavers, Locked, by-writer, by-readers, by-leaver, Real}
 use Rattle.invariant.specs.Invariant.{Inv}
-use Rattle.invariant.specs.Beside.{real, quiet-reader}
-use Rattle.invariant.specs.Frames.{moved, waits-as, summed, land, shown}
+use Rattle.invariant.specs.Exclusion.{real, quiet-reader}
+use Rattle.invariant.specs.Frames.{moved, waits-as, summed, land, viewed}
 use Rattle.invariant.specs.Moves.{stood}
 use Rattle.invariant.specs.Kept.{lookAt, Kept, Goes, Setting, mine}
-use Rattle.invariant.specs.Off.{Off, is-off}
+use Rattle.invariant.specs.OffQueue.{OffQueue, off-queue}
 
 links-next : (nd : ℕ → Node) (k : ℕ) (m : Word) → linksOf (upd nd k (withNext (nd k) m)) ≡ setNx (linksOf nd) k (m .0)
 links-next nd k m = λ i. record {
@@ -49,7 +49,7 @@ module _ (st : Setting) (seen : Word) (tail : NodeNumber) (here : mine st .place
   is : aboutAt s (me .0) ≡ walking ReadUnlock seen (head looks (toNode seen .0) (tail .0))
   is = ap about here
 
-  knows : HeadAt looks (ticketsOf g) (takenOf g (me .0)) (linksOf (s .nd)) (toNode seen .0) (tail .0)
+  knows : HeadAt looks (ticketsOf g) (takenBy g (me .0)) (linksOf (s .nd)) (toNode seen .0) (tail .0)
   knows = rw is at (i .queue .know (me .0))
 
   some : g .lo < g .hi
@@ -96,12 +96,12 @@ module _ (st : Setting) (seen : Word) (tail : NodeNumber) (here : mine st .place
   next p = record { place = p; token = mine st .token; holding = releasedRead (mine st .holding) }
 
   -- the last one leaves LOCKED to be cleared
-  subtract : (p : Place) → Off (about p) → Allowed (about p .may) (releasedRead (mine st .holding))
+  subtract : (p : Place) → OffQueue (about p) → Allowed (about p .may) (releasedRead (mine st .holding))
       → ((1 ≤ readers n s - 1) × (leaver (next p) ≡ 0)) ⊎ ((readers n s ≡ 1) × (leaver (next p) ≡ 1))
       → Inv n (moved s (me .0) (s .word) (next p) nodes) g
   subtract p o a last = land i g (me .0) (s .word) (next p) nodes (record {
     queue =
-        shown s (me .0) (next p) nodes (s .word) (setNx (linksOf (s .nd)) (tail .0) (less .0))
+        viewed s (me .0) (next p) nodes (s .word) (setNx (linksOf (s .nd)) (tail .0) (less .0))
         (waitOf (s .th) (s .nd)) (links-next (s .nd) (tail .0) less) waits
         (rw (o .role)
         (Walking.subtract (i .queue) (me .0) (toNode seen .0) (tail .0) (less .0) (ap (λ z. z .role) is)
@@ -162,13 +162,13 @@ module _ (st : Setting) (seen : Word) (tail : NodeNumber) (here : mine st .place
       (eqb (s .nd (tail .0) .next .0 - SINGLE) 0) _ _
       (λ e. (
         g,
-        subtract (ReleaseCas seen) (is-off _ _ _ _) refl
+        subtract (ReleaseCas seen) (off-queue _ _ _ _) refl
             (inr (omega (arith, reading .some, enough, eqb-true (s .nd (tail .0) .next .0 - SINGLE) 0 e), refl)),
         stood me g here refl _ refl,
       ))
       (λ e. (
         g,
-        subtract Idle (is-off _ _ _ _) tt
+        subtract Idle (off-queue _ _ _ _) tt
             (inl (omega (arith, reading .some, enough, eqb-false (s .nd (tail .0) .next .0 - SINGLE) 0 e), refl)),
         stood me g here refl _ refl,
       )))

@@ -20,8 +20,8 @@ use Rattle.state.specs.declared.place.Place.{Place}
 use Rattle.state.specs.declared.place.Place.the-variants as At
 use Rattle.lock.specs.Begin.{holdsNothing}
 use Rattle.queue.specs.Queue.{Links}
-use Rattle.queue.specs.Roles.{Role, none, ready, walk, past, link, head, split, aside, undo, wake, store, Kind, looks}
-use Rattle.queue.specs.Roles.{changes, alone}
+use Rattle.queue.specs.Roles.{Role, none, ready, walk, past, link, head, split, aside, undo, wake, store, WalkKind}
+use Rattle.queue.specs.Roles.{looks, changes, alone}
 
 -- ── the word that an owner saw ──
 
@@ -78,30 +78,30 @@ forReader (Queue _) = false
 forReader ReadUnlock = true
 forReader Downgrade = false
 
-abbrev pub byWaiter : Walk → Bool
-byWaiter (Queue who) = waiter who
-byWaiter ReadUnlock = false
-byWaiter Downgrade = false
+abbrev pub walkedByWaiter : Walk → Bool
+walkedByWaiter (Queue who) = waiter who
+walkedByWaiter ReadUnlock = false
+walkedByWaiter Downgrade = false
 
 abbrev pub mayWalk : Walk → May
 mayWalk (Queue _) = free
 mayWalk ReadUnlock = reads
 mayWalk Downgrade = reads
 
-abbrev pub lookKind : Bool → Kind
+abbrev pub lookKind : Bool → WalkKind
 lookKind true = looks
 lookKind false = changes
 
-abbrev pub kindOf : Walk → Word → Kind
-kindOf (Queue _) w = lookKind (handsOff w)
-kindOf ReadUnlock w = looks
-kindOf Downgrade w = alone
+abbrev pub walkKindOf : Walk → Word → WalkKind
+walkKindOf (Queue _) w = lookKind (handsOff w)
+walkKindOf ReadUnlock w = looks
+walkKindOf Downgrade w = alone
 
 -- ── the table ──
 
 -- off the queue: may, leaves, needsQueue, contends
-abbrev pub off : May → Bool → Bool → Bool → About
-off may leaves needsQueue contends =
+abbrev pub offQueue : May → Bool → Bool → Bool → About
+offQueue may leaves needsQueue contends =
     record {
       role = none;
       owner = false;
@@ -157,7 +157,7 @@ walking k seen role =
       owner = forQueue k;
       seen = seen;
       reader = forReader k;
-      registered = byWaiter k;
+      registered = walkedByWaiter k;
       asleep = false;
       may = mayWalk k;
       ok = true;
@@ -200,19 +200,20 @@ waking who role =
     }
 
 abbrev pub about : Place → About
-about At.Idle = off any false false false
-about (At.TryReadLoad _) = off free false false false
-about (At.TryReadCas _ _) = off free false false false
-about (At.TryWriteOr _) = off free false false false
-about (At.ContendLoad _ _) = off free false false true
-about (At.ContendCas _ _ _) = off free false false true
+about At.Idle = offQueue any false false false
+about (At.TryReadLoad _) = offQueue free false false false
+about (At.TryReadCas _ _) = offQueue free false false false
+about (At.TryWriteOr _) = offQueue free false false false
+about (At.ContendLoad _ _) = offQueue free false false true
+about (At.ContendCas _ _ _) = offQueue free false false true
 about (At.RegisterCas _ _ seen) = filling seen
 about (At.CompletedLoad _) = waiting false
 about (At.Park _) = waiting true
-about (At.WalkTail k seen current) = walking k seen (walk (kindOf k seen) (toNode seen .0) (current .0))
-about (At.WalkNext k seen current) = walking k seen (past (kindOf k seen) (toNode seen .0) (current .0))
-about (At.WalkPrev k seen current next) = walking k seen (link (kindOf k seen) (toNode seen .0) (current .0) (next .0))
-about (At.WalkHead k seen tail) = walking k seen (head (kindOf k seen) (toNode seen .0) (tail .0))
+about (At.WalkTail k seen current) = walking k seen (walk (walkKindOf k seen) (toNode seen .0) (current .0))
+about (At.WalkNext k seen current) = walking k seen (past (walkKindOf k seen) (toNode seen .0) (current .0))
+about (At.WalkPrev k seen current next) =
+    walking k seen (link (walkKindOf k seen) (toNode seen .0) (current .0) (next .0))
+about (At.WalkHead k seen tail) = walking k seen (head (walkKindOf k seen) (toNode seen .0) (tail .0))
 about (At.QueueCas who seen) = owning who seen none (handsOff seen)
 about (At.SplitPrev who seen tail) = owning who seen (head changes (toNode seen .0) (tail .0)) (unheld seen)
 about (At.SplitStore who seen tail prev) = owning who seen (split (toNode seen .0) (tail .0) (prev .0)) (unheld seen)
@@ -222,13 +223,13 @@ about (At.SplitRestore who seen tail reported) =
 about (At.TakeCas who seen tail) = owning who seen (head changes (toNode seen .0) (tail .0)) (not (handsOff seen))
 about (At.WakePrev who current) = waking who (wake (current .0))
 about (At.WakeStore who current prev) = waking who (store (current .0) (prev .0))
-about At.ReadUnlockLoad = off reads false false false
-about (At.ReadUnlockCas _) = off reads false false false
+about At.ReadUnlockLoad = offQueue reads false false false
+about (At.ReadUnlockCas _) = offQueue reads false false false
 about (At.Subtract seen tail) = walking ReadUnlock seen (head looks (toNode seen .0) (tail .0))
-about At.WriteUnlockCas = off writes false false false
-about (At.ReleaseCas _) = off notRead true true false
-about At.DowngradeCas = off writes false false false
-about (At.DowngradeSlowCas _) = off writes false true false
+about At.WriteUnlockCas = offQueue writes false false false
+about (At.ReleaseCas _) = offQueue notRead true true false
+about At.DowngradeCas = offQueue writes false false false
+about (At.DowngradeSlowCas _) = offQueue writes false true false
 
 -- ── the machine as functions: of threads, and of node numbers ──
 

@@ -19,7 +19,7 @@ use Rattle.state.specs.declared.place.Place.the-variants.{TakeCas, WakePrev}
 use Rattle.state.specs.declared.place.Who.{Who}
 use Rattle.unlock.specs.UnlockQueue.{takeCasOf}
 use Rattle.queue.specs.Tests.{never}
-use Rattle.queue.specs.Tickets.{Ghost, took, queueOf as ticketsOf, takenOf as taken}
+use Rattle.queue.specs.Tickets.{Ghost, took, ticketsOf, takenBy as taken}
 use Rattle.queue.specs.Queue.{Full}
 use Rattle.queue.specs.Roles.{head, filled, changes, HeadAt}
 use Rattle.queue.specs.Invariant as Q
@@ -29,8 +29,8 @@ use Rattle.invariant.specs.Table.{handsOff, writes, owning, about, Lock,
 use Rattle.invariant.specs.Table.{leaver}
 use Rattle.invariant.specs.Invariant.{readers, writers, leavers, Hold, Unqueued, empty, read, Newest, queueOf}
 use Rattle.invariant.specs.Invariant.{Inv}
-use Rattle.invariant.specs.Beside.{inside, owned, unowned, is-queued, lonely, nobody-needs}
-use Rattle.invariant.specs.Frames.{moved, land, shown-still}
+use Rattle.invariant.specs.Exclusion.{inside, owned, unowned, is-queued, lonely, nobody-needs}
+use Rattle.invariant.specs.Frames.{moved, land, viewed-still}
 use Rattle.invariant.specs.Moves.{takes-all, take-fails}
 use Rattle.invariant.specs.Kept.{lookAt, Kept, kept-still, placed, Goes, Setting, mine}
 use Rattle.invariant.specs.Owner.{again}
@@ -56,9 +56,9 @@ module _ {n : ℕ} {s : Lock} {g : Ghost} (i : Inv n s g) (t : ℕ) (tin : t < n
     pub unfilled : filled (about (x .place) .role) ≡ false
     pub asleep : about (x .place) .asleep ≡ false
 
-  pub take : Takes → Inv n (moved s t w x (s .nd)) (took g t)
-  take c = land i (took g t) t w x (s .nd) (record {
-    queue = shown-still s t x w (c .registered) (c .queue);
+  pub takes-whole : Takes → Inv n (moved s t w x (s .nd)) (took g t)
+  takes-whole c = land i (took g t) t w x (s .nd) (record {
+    queue = viewed-still s t x w (c .registered) (c .queue);
     newest = λ e. never (p .unqueued) e;
     nobody = λ e. refl;
     handed = λ e. never (p .unqueued) e;
@@ -115,7 +115,7 @@ module _ (st : Setting) (who : Who) (seen : Word) (tail : NodeNumber)
   take-to : s .word ≡ seen → (w : Word) → Plain w → writers n s ≡ 0 → leavers n s ≡ 0
       → ((w .0 ≡ 0) × (readers n s ≡ 0)) ⊎ ((w .0 ≡ SINGLE * readers n s + LOCKED) × (1 ≤ readers n s))
       → Inv n (moved s (me .0) w (placed (mine st) (WakePrev who tail)) (s .nd)) (took g (me .0))
-  take-to same w p w0 l0 rs = take i (me .0) tin w (placed (mine st) (WakePrev who tail)) p (record {
+  take-to same w p w0 l0 rs = takes-whole i (me .0) tin w (placed (mine st) (WakePrev who tail)) p (record {
     queue =
         Taking.take (i .queue) (me .0) (toNode seen .0) (tail .0) (v .ticket) (ap (λ a. a .role) is)
         (lonely i (me .0) (rw is refl) (rw is hands-on)) (v .last) (v .node ∙ ap (λ y. toNode y .0) same);

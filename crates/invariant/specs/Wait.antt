@@ -15,7 +15,7 @@ use Rattle.queue.specs.Roles.{none}
 use Rattle.queue.specs.Invariant as Q
 use Rattle.invariant.specs.Table.{waiting, about, aboutAt, linksOf, waitOf, Free}
 use Rattle.invariant.specs.Invariant.{queueOf, Inv}
-use Rattle.invariant.specs.Frames.{moved, waits-as, stay, shown}
+use Rattle.invariant.specs.Frames.{moved, waits-as, stay, viewed}
 use Rattle.invariant.specs.Kept.{Kept, placed, Goes, Setting, mine, goneTo, kept-stood}
 
 module _ (st : Setting) where
@@ -30,7 +30,7 @@ module _ (st : Setting) where
         → waitOf (upd (s .th) (me .0) x) (s .nd) ≡ waitOf (s .th) (s .nd)
         → Q.Inv g (queueOf (moved s (me .0) (s .word) x (s .nd)))
     queue x none-after same =
-        shown s (me .0) x (s .nd) (s .word) (linksOf (s .nd)) (waitOf (s .th) (s .nd)) refl same
+        viewed s (me .0) x (s .nd) (s .word) (linksOf (s .nd)) (waitOf (s .th) (s .nd)) refl same
         (rw none-after
         (Q.turn g (queueOf s) (i .queue) (me .0) none (rw told at (i .queue .know (me .0))) (never refl)))
 

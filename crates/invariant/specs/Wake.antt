@@ -26,20 +26,20 @@ use Rattle.lock.specs.Landed.{tokenedOf}
 use Rattle.walk.specs.CompleteAll.{wakePrevOf, wakeStoreOf}
 use Rattle.queue.specs.Tests.{never}
 use Rattle.queue.specs.Updates.{upd, upd-same, upd-other, upd-cases, map-keep, eq?}
-use Rattle.queue.specs.Tickets.{Ghost, completed, rest, takenOf}
+use Rattle.queue.specs.Tickets.{Ghost, completed, restSpan, takenBy}
 use Rattle.queue.specs.Roles.{none, wake, store, filled, StoreAt}
-use Rattle.queue.specs.Reads.{All, Waits, named-wait}
+use Rattle.queue.specs.Reads.{EachNode, NodeWaits, named-wait}
 use Rattle.queue.specs.Invariant as Q
 use Rattle.queue.specs.Taking
 use Rattle.invariant.specs.Table.{waiter, waking, about, Lock, aboutAt, linksOf, waitOf, roleOf, Allowed}
 use Rattle.invariant.specs.Invariant.{Responsible, contends, called, wakes, Newest, queueOf, Inv}
-use Rattle.invariant.specs.Beside.{inside}
-use Rattle.invariant.specs.Frames.{moved, waits-as, glide, shown}
+use Rattle.invariant.specs.Exclusion.{inside}
+use Rattle.invariant.specs.Frames.{moved, waits-as, glide, viewed}
 use Rattle.invariant.specs.Moves.{Completes, Went, completes-more, completes-waits, completes-ends}
 use Rattle.invariant.specs.Kept.{wokenIn, Kept, placed, Goes, Setting, mine, kept-stood}
-use Rattle.invariant.specs.On.{alike-wake, unlinked, stroll}
+use Rattle.invariant.specs.OnQueue.{alike-wake, unlinked, goes-on-queue}
 use Rattle.invariant.specs.Tokens.{inv-token-set}
-use Rattle.invariant.specs.Told.{Settled, settled-waiting, settled-idle, settled-waking}
+use Rattle.invariant.specs.TableFacts.{OwnsNothing, owns-nothing-waiting, owns-nothing-idle, owns-nothing-waking}
 
 links-completed : (nd : ℕ → Node) (k : ℕ) → linksOf (upd nd k (withCompleted (nd k))) ≡ linksOf nd
 links-completed nd k = λ i. record {
@@ -74,12 +74,13 @@ module _ {n : ℕ} {s : Lock} {g : Ghost} (i : Inv n s g) (t : ℕ) (tin : t < n
   -- the node that t completes waits
   pub wakes-whom : Waiter-of s (current .0)
   wakes-whom =
-      waiter-of s (current .0) (subst (λ a. All (Waits (i .queue) t) (a .role)) is (named-wait (i .queue) t) .0)
+      waiter-of s (current .0)
+      (subst (λ a. EachNode (NodeWaits (i .queue) t) (a .role)) is (named-wait (i .queue) t) .0)
 
   -- ── completing, where the node's owner has its token ──
 
   module _ (token : (u : ℕ) → suc u ≡ current .0 → s .th u .token ≡ true) (p : Place)
-      (to : Settled (about p) (s .th t .holding) (waiter who)) where
+      (to : OwnsNothing (about p) (s .th t .holding) (waiter who)) where
     abbrev nodes : ℕ → Node
     nodes = upd (s .nd) (current .0) (withCompleted (s .nd (current .0)))
 
@@ -122,7 +123,7 @@ module _ {n : ℕ} {s : Lock} {g : Ghost} (i : Inv n s g) (t : ℕ) (tin : t < n
         → Inv n (moved s t (s .word) next nodes) (completed g t)
     complete q = glide i (completed g t) t next nodes (record {
       queue =
-          shown s t next nodes (s .word) (linksOf (s .nd)) (upd (waitOf (s .th) (s .nd)) (current .0) false)
+          viewed s t next nodes (s .word) (linksOf (s .nd)) (upd (waitOf (s .th) (s .nd)) (current .0) false)
           (links-completed (s .nd) (current .0)) waits q;
       newest =
           λ e. let y : Newest g (s .word) = i .newest e in
@@ -190,7 +191,7 @@ module _ {n : ℕ} {s : Lock} {g : Ghost} (i : Inv n s g) (t : ℕ) (tin : t < n
         sees u (inl z) (contends e) = never (ap (λ v. aboutAt s v .contends) z ∙ ap (λ a. a .contends) is) e
         sees u (inr ne) (contends e) = (u, contends (rw (upd-other (s .th) t next u ne) e))
         sees u (inl z) (wakes l) = heir
-        sees u (inr ne) (wakes l) = (u, wakes (rw (upd-other (g .taken) t (rest g t) u ne) l))
+        sees u (inr ne) (wakes l) = (u, wakes (rw (upd-other (g .taken) t (restSpan g t) u ne) l))
 
 -- ── the token is set after the store; it might as well be set before ──
 
@@ -253,7 +254,7 @@ module _ (st : Setting) (few : st .n ≤ threadLimit) (who : Who) (current : Nod
   kept-wake-prev here =
       let at-wake : aboutAt s (me .0) ≡ waking who (wake (current .0)) = ap about here in
       kept-stood st (current .0) here refl _ _ refl
-      (stroll i (me .0) tin (WakeStore who current (s .nd (current .0) .prev))
+      (goes-on-queue i (me .0) tin (WakeStore who current (s .nd (current .0) .prev))
       (rw at-wake (alike-wake who _ _ refl)) (s .nd) (linksOf (s .nd)) (unlinked (s .nd)) (λ r. never refl)
       (Taking.load-wake (i .queue) (me .0) (current .0) (ap (λ a. a .role) at-wake)))
 
@@ -297,7 +298,7 @@ module _ (st : Setting) (few : st .n ≤ threadLimit) (who : Who) (current : Nod
         ∙ sym (pick-yes (ltb (whom .thread) threadLimit) _ _ _
         (lt-ltb (whom .thread) threadLimit (omega (arith, within))) refl))
 
-    wake-to : (p : Place) → Settled (about p) (mine st .holding) (waiter who)
+    wake-to : (p : Place) → OwnsNothing (about p) (mine st .holding) (waiter who)
         → Q.Inv (completed g (me .0))
         (Q.moved (queueOf called-first) (me .0) (linksOf (s .nd))
         (upd (waitOf (called-first .th) (s .nd)) (current .0) false) (about p .role)) →
@@ -327,13 +328,13 @@ module _ (st : Setting) (few : st .n ≤ threadLimit) (who : Who) (current : Nod
         (λ e. (completed g (me .0), last who refl (eqb-true (prev .0) 0 e), went-last who))
         (λ e. (
           completed g (me .0),
-          wake-to (WakePrev who prev) (settled-waking who _ refl may)
+          wake-to (WakePrev who prev) (owns-nothing-waking who _ refl may)
               (Taking.complete-more (with-token .queue) (me .0) (current .0) (prev
               .0) role-is (eqb-false (prev .0) 0 e)),
           completes-more me g here _ done-with,
         ))
       where
-        knows : StoreAt (takenOf g (me .0)) (linksOf (s .nd)) (current .0) (prev .0)
+        knows : StoreAt (takenBy g (me .0)) (linksOf (s .nd)) (current .0) (prev .0)
         knows = rw here at (i .queue .know (me .0))
 
         done-with : Completes g (me .0) (current .0) (completed g (me .0))
@@ -359,6 +360,6 @@ module _ (st : Setting) (few : st .n ≤ threadLimit) (who : Who) (current : Nod
             }) (completed g (me .0))
         last (Waiter writer) o z =
             wake-to (CompletedLoad writer)
-            (settled-waiting (ap waiter o) (rw (← o) at may))
+            (owns-nothing-waiting (ap waiter o) (rw (← o) at may))
             (finished z)
-        last Leaver o z = wake-to Idle (settled-idle (ap waiter o)) (finished z)
+        last Leaver o z = wake-to Idle (owns-nothing-idle (ap waiter o)) (finished z)

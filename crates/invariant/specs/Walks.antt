@@ -29,14 +29,15 @@ use Rattle.queue.specs.Queue.{setTl}
 use Rattle.queue.specs.Roles.{Role, none, head, onQueue, filled, looks, changes, alone}
 use Rattle.queue.specs.Invariant as Q
 use Rattle.queue.specs.Walking
-use Rattle.invariant.specs.Table.{handsOff, unheld, lookKind, kindOf, walking, owning, about, aboutAt, linksOf}
-use Rattle.invariant.specs.Table.{roleOf}
+use Rattle.invariant.specs.Table.{handsOff, unheld, lookKind, walkKindOf, walking, owning, about, aboutAt}
+use Rattle.invariant.specs.Table.{linksOf, roleOf}
 use Rattle.invariant.specs.Invariant.{Real, queueOf, Inv}
-use Rattle.invariant.specs.Told.{told}
-use Rattle.invariant.specs.Beside.{on-queue, quiet-owner, quiet-reader}
+use Rattle.invariant.specs.TableFacts.{row-facts}
+use Rattle.invariant.specs.Exclusion.{on-queue, quiet-owner, quiet-reader}
 use Rattle.invariant.specs.Moves.{stood}
 use Rattle.invariant.specs.Kept.{lookAt, Kept, Goes, Setting, mine, goneTo, kept-stood}
-use Rattle.invariant.specs.On.{Alike, alike-walk, alike-own, unlinked, linked-tail, linked-prev, stroll}
+use Rattle.invariant.specs.OnQueue.{Alike, alike-walk, alike-own, unlinked, linked-tail, linked-prev}
+use Rattle.invariant.specs.OnQueue.{goes-on-queue}
 
 module _ (st : Setting) where
   open Setting st using (n, s, g, i, me, tin)
@@ -55,33 +56,33 @@ module _ (st : Setting) where
       → Goes st (current .0) (λ v. walkTailOf v k seen current)
   kept-walk-tail k seen current here = pick-both (Kept st (current .0)) (isNone (s .nd (current .0) .tail)) _ _
       (λ e. kept-stood st (current .0) here refl _ _ refl
-      (stroll i (me .0) tin (WalkNext k seen current)
+      (goes-on-queue i (me .0) tin (WalkNext k seen current)
       (alike k seen _ _ (ap about here) (WalkNext k seen current) refl refl) (s .nd) (linksOf (s .nd))
       (unlinked (s .nd)) (calm k seen _ _ (ap about here) (WalkNext k seen current) refl refl)
-      (Walking.load-none (i .queue) (me .0) (kindOf k seen) (toNode seen .0) (current .0)
+      (Walking.load-none (i .queue) (me .0) (walkKindOf k seen) (toNode seen .0) (current .0)
       (ap (λ p. about p .role) here) (eqb-true (s .nd (current .0) .tail .0) 0 e))))
       (λ e. kept-stood st (current .0) here refl _ _ refl
-      (stroll i (me .0) tin (WalkHead k seen (s .nd (current .0) .tail))
+      (goes-on-queue i (me .0) tin (WalkHead k seen (s .nd (current .0) .tail))
       (alike k seen _ _ (ap about here) (WalkHead k seen (s .nd (current .0) .tail)) refl refl) (s .nd)
       (linksOf (s .nd)) (unlinked (s .nd))
       (calm k seen _ _ (ap about here) (WalkHead k seen (s .nd (current .0) .tail)) refl refl)
-      (Walking.load-tail (i .queue) (me .0) (kindOf k seen) (toNode seen .0) (current .0)
+      (Walking.load-tail (i .queue) (me .0) (walkKindOf k seen) (toNode seen .0) (current .0)
       (ap (λ p. about p .role) here) (eqb-false (s .nd (current .0) .tail .0) 0 e))))
 
   pub kept-walk-next : (k : Walk) (seen : Word) (current : NodeNumber) → mine st .place ≡ WalkNext k seen current
       → Goes st (current .0) (λ v. walkNextOf v k seen current)
   kept-walk-next k seen current here =
       kept-stood st (current .0) here refl _ _ refl
-      (stroll i (me .0) tin (WalkPrev k seen current (toNode (s .nd (current .0) .next)))
+      (goes-on-queue i (me .0) tin (WalkPrev k seen current (toNode (s .nd (current .0) .next)))
       (alike k seen _ _ (ap about here) (WalkPrev k seen current (toNode (s .nd (current .0) .next))) refl refl)
       (s .nd) (linksOf (s .nd)) (unlinked (s .nd))
       (calm k seen _ _ (ap about here) (WalkPrev k seen current (toNode (s .nd (current .0) .next))) refl refl)
-      (Walking.load-next (i .queue) (me .0) (kindOf k seen) (toNode seen .0) (current .0)
+      (Walking.load-next (i .queue) (me .0) (walkKindOf k seen) (toNode seen .0) (current .0)
       (ap (λ p. about p .role) here)))
 
   -- who walks on the queue is its owner or a contended reader: nobody else changes it
   quiet-walk : onQueue (roleOf (s .th) (me .0)) ≡ true → Q.Quiet (queueOf s) (me .0)
-  quiet-walk e = by (told (mine st .place) .stands e)
+  quiet-walk e = by (row-facts (mine st .place) .stands e)
     where
       by : (aboutAt s (me .0) .owner ≡ true) ⊎ (aboutAt s (me .0) .reader ≡ true) → Q.Quiet (queueOf s) (me .0)
       by (inl o) = quiet-owner i (me .0) o
@@ -92,10 +93,11 @@ module _ (st : Setting) where
       → Goes st (next .0) (λ v. walkPrevOf v k seen current next)
   kept-walk-prev k seen current next here = (
     g,
-    stroll i (me .0) tin (WalkTail k seen next) (alike k seen _ _ (ap about here) (WalkTail k seen next) refl refl)
+    goes-on-queue i (me .0) tin (WalkTail k seen next)
+        (alike k seen _ _ (ap about here) (WalkTail k seen next) refl refl)
         (upd (s .nd) (next .0) (withPrev (s .nd (next .0)) current)) _ (linked-prev (s .nd) (next .0) current)
         (calm k seen _ _ (ap about here) (WalkTail k seen next) refl refl)
-        (Walking.store-prev (i .queue) (me .0) (kindOf k seen) (toNode seen .0) (current .0) (next .0)
+        (Walking.store-prev (i .queue) (me .0) (walkKindOf k seen) (toNode seen .0) (current .0) (next .0)
         (ap (λ p. about p .role) here) (λ e. quiet-walk (ap (λ p. onQueue (about p .role)) here ∙ e))),
     stood me g here refl _ refl,
   )
@@ -114,7 +116,7 @@ module _ (st : Setting) where
       owns p r ok on f e q =
           let is : aboutAt s (me .0)
           ≡ owning who seen (head (lookKind (handsOff seen)) (toNode seen .0) (tail .0)) true = ap about here in
-          stroll i (me .0) tin p (rw (is, on) (alike-own who seen seen _ r true ok f e)) nodes _
+          goes-on-queue i (me .0) tin p (rw (is, on) (alike-own who seen seen _ r true ok f e)) nodes _
           (linked-tail (s .nd) (toNode seen .0) tail)
           (λ x _. ap handsOff (ap (λ a. a .seen) on) ∙ (rw is at (i .calm x (me .0))) refl)
           (rw on q)
@@ -160,7 +162,7 @@ module _ (st : Setting) where
         → Goes st (toNode seen .0) (λ v. walkHeadOf v ReadUnlock seen tail)
     kept-walk-head-reader here = (
       g,
-      stroll i (me .0) tin (Subtract seen tail)
+      goes-on-queue i (me .0) tin (Subtract seen tail)
           (alike ReadUnlock seen _ _ (ap about here) (Subtract seen tail) refl refl) nodes _
           (linked-tail (s .nd) (toNode seen .0) tail)
           (calm ReadUnlock seen _ _ (ap about here) (Subtract seen tail) refl refl)
@@ -174,7 +176,7 @@ module _ (st : Setting) where
     kept-walk-head-downgrade here =
         let is : aboutAt s (me .0) ≡ walking Downgrade seen (head alone (toNode seen .0) (tail .0)) = ap about here in (
           g,
-          stroll i (me .0) tin (WakePrev Leaver tail) (rw is turned) nodes _
+          goes-on-queue i (me .0) tin (WakePrev Leaver tail) (rw is turned) nodes _
               (linked-tail (s .nd) (toNode seen .0) tail) (λ x. never refl)
               (Walking.store-alone (i .queue) (me .0) (toNode seen .0) (tail .0) (ap (λ a. a .role) is)),
           stood me g here refl _ refl,

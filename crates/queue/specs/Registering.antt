@@ -7,12 +7,12 @@ use Prim.Native.Nat.{ℕ, suc, _≤_, _<_}
 use native.Mathlib.Omega.{arith}
 use Rattle.word.specs.Base.{pick}
 use Rattle.queue.specs.Updates.{upd, upd-same, upd-other, eq?}
-use Rattle.queue.specs.Queue.{Links, linkOf, Clean, Queue, Agree, relog}
+use Rattle.queue.specs.Queue.{Links, linkIn, Clean, Queue, Agree, relog}
 use Rattle.queue.specs.Queue
-use Rattle.queue.specs.Tickets.{Ghost, queueOf, takenOf, registered, log-below, waiting, parts-register}
+use Rattle.queue.specs.Tickets.{Ghost, ticketsOf, takenBy, registered, log-below, waiting-apart, parts-register}
 use Rattle.queue.specs.Roles.{none, ready, ReadyAt}
-use Rattle.queue.specs.Invariant.{St, Inv, moved, Only, fillLinks, only-fill, step, turn, told, agree-off}
-use Rattle.queue.specs.Invariant.{still-off, clean-off, turned, relinked}
+use Rattle.queue.specs.Invariant.{St, Inv, moved, Only, fillLinks, only-fill, step, turn, role-knows, agree-apart}
+use Rattle.queue.specs.Invariant.{still-apart, clean-apart, turned, relinked}
 use Rattle.queue.specs.Tests.{never}
 
 module _ {g : Ghost} {s : St} (v : Inv g s) (t : ℕ) where
@@ -20,8 +20,8 @@ module _ {g : Ghost} {s : St} (v : Inv g s) (t : ℕ) where
   pub unready : (first : Bool) (n : ℕ) → s .role t ≡ ready first n → Inv g (turned s t none)
   unready first n e = turn g s v t none (w .empty) (never refl)
     where
-      w : ReadyAt (takenOf g t) (s .links) (suc t) first n
-      w = told v t (ready first n) e
+      w : ReadyAt (takenBy g t) (s .links) (suc t) first n
+      w = role-knows v t (ready first n) e
 
   -- a node that does not wait is nobody's
   pub fill : (first : Bool) (n : ℕ) → s .role t ≡ none → s .wait (suc t) ≡ false
@@ -30,7 +30,7 @@ module _ {g : Ghost} {s : St} (v : Inv g s) (t : ℕ) where
       step v t g l′ (s .wait) (ready first n) (v .parts)
       (Queue.queue-agree off (v .queue))
       (record {
-        empty = told v t none e;
+        empty = role-knows v t none e;
         nx = upd-same (s .links .nx) (suc t) n;
         pv = upd-same (s .links .pv) (suc t) 0;
         tl = upd-same (s .links .tl) (suc t) (pick first (suc t) 0);
@@ -40,11 +40,11 @@ module _ {g : Ghost} {s : St} (v : Inv g s) (t : ℕ) where
         taken = refl;
         frame = record {
           taken =
-              agree-off v t (takenOf g u) l′ (suc t) only
-              (λ i a b. waiting (v .parts) i (suc u) (suc t) (v .parts .held u i a b .1) f);
+              agree-apart v t (takenBy g u) l′ (suc t) only
+              (λ i a b. waiting-apart (v .parts) i (suc u) (suc t) (v .parts .held u i a b .1) f);
           node = λ _. only (suc u) (λ z. ne (omega arith));
-          still = λ _. still-off v t l′ off;
-          clean = λ _. clean-off v t l′ off;
+          still = λ _. still-apart v t l′ off;
+          clean = λ _. clean-apart v t l′ off;
           below = λ _ b. off .nx (g .lo) (omega arith) b;
         };
         free = v .free u;
@@ -56,13 +56,13 @@ module _ {g : Ghost} {s : St} (v : Inv g s) (t : ℕ) where
       only : Only (s .links) l′ (suc t)
       only = only-fill (s .links) (suc t) first n
 
-      off : Agree (queueOf g) (g .log) (s .links) l′
+      off : Agree (ticketsOf g) (g .log) (s .links) l′
       off =
-          agree-off v t (queueOf g) l′ (suc t) only
-          (λ i a b. waiting (v .parts) i 0 (suc t) (v .parts .queued i a b) f)
+          agree-apart v t (ticketsOf g) l′ (suc t) only
+          (λ i a b. waiting-apart (v .parts) i 0 (suc t) (v .parts .queued i a b) f)
 
   -- the node gets ticket hi; with its queue, whether it is the first or not, the rest is the same
-  join : (first : Bool) (n : ℕ) → s .role t ≡ ready first n → Queue (queueOf (registered g (suc t))) (s .links)
+  join : (first : Bool) (n : ℕ) → s .role t ≡ ready first n → Queue (ticketsOf (registered g (suc t))) (s .links)
       → Inv (registered g (suc t)) (moved s t (s .links) (upd (s .wait) (suc t) true) none)
   join first n e q =
       step v t g′ (s .links) (upd (s .wait) (suc t) true) none
@@ -97,18 +97,18 @@ module _ {g : Ghost} {s : St} (v : Inv g s) (t : ℕ) where
       g′ : Ghost
       g′ = registered g (suc t)
 
-      w : ReadyAt (takenOf g t) (s .links) (suc t) first n
-      w = told v t (ready first n) e
+      w : ReadyAt (takenBy g t) (s .links) (suc t) first n
+      w = role-knows v t (ready first n) e
 
       old : (i : ℕ) → i < g .hi → upd (g .log) (g .hi) (suc t) i ≡ g .log i
       old i h = log-below (v .parts) (suc t) i h
 
-      untouched : {h i : ℕ} → Clean (queueOf g) (s .links) h → h ≤ i → i < suc (g .hi) → (i ≡ g .hi) ⊎ (i ≢ g .hi)
+      untouched : {h i : ℕ} → Clean (ticketsOf g) (s .links) h → h ≤ i → i < suc (g .hi) → (i ≡ g .hi) ⊎ (i ≢ g .hi)
           → s .links .pv (upd (g .log) (g .hi) (suc t) i) ≡ 0
       untouched {h} {i} c x y (inl z) = rw (z, upd-same (g .log) (g .hi) (suc t)) (w .pv)
       untouched {h} {i} c x y (inr ne) = rw (old i (omega arith)) (c i x (omega arith))
 
-  relogged : Queue (relog (queueOf g) (upd (g .log) (g .hi) (suc t))) (s .links)
+  relogged : Queue (relog (ticketsOf g) (upd (g .log) (g .hi) (suc t))) (s .links)
   relogged =
       Queue.queue-agree
       (record {
@@ -121,17 +121,17 @@ module _ {g : Ghost} {s : St} (v : Inv g s) (t : ℕ) where
   pub register-first : (n : ℕ) → s .role t ≡ ready true n → g .lo ≡ g .hi
       → Inv (registered g (suc t)) (moved s t (s .links) (upd (s .wait) (suc t) true) none)
   register-first n e z =
-      let w : ReadyAt (takenOf g t) (s .links) (suc t) true n = told v t (ready true n) e in
+      let w : ReadyAt (takenBy g t) (s .links) (suc t) true n = role-knows v t (ready true n) e in
       join true n e
       (Queue.first relogged z (rw (upd-same (g .log) (g .hi) (suc t)) (w .pv))
       (rw (upd-same (g .log) (g .hi) (suc t)) (w .tl)))
 
-  pub register-next : (n p : ℕ) → s .role t ≡ ready false n → suc p ≡ g .hi → g .lo ≤ p → g .log p ≡ linkOf n
+  pub register-next : (n p : ℕ) → s .role t ≡ ready false n → suc p ≡ g .hi → g .lo ≤ p → g .log p ≡ linkIn n
       → Inv (registered g (suc t)) (moved s t (s .links) (upd (s .wait) (suc t) true) none)
   register-next n p e at some is =
-      let w : ReadyAt (takenOf g t) (s .links) (suc t) false n = told v t (ready false n) e in
+      let w : ReadyAt (takenBy g t) (s .links) (suc t) false n = role-knows v t (ready false n) e in
       join false n e (Queue.grow relogged p (sym at) (omega arith)
       (rw (upd-same (g .log) (g .hi) (suc t), log-below (v .parts) (suc t) p (omega arith))
-      (ap linkOf (w .nx) ∙ sym is))
+      (ap linkIn (w .nx) ∙ sym is))
       (rw (upd-same (g .log) (g .hi) (suc t)) (w .pv))
       (rw (upd-same (g .log) (g .hi) (suc t)) (w .tl)))

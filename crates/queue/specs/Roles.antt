@@ -8,23 +8,23 @@ use mathlib.Core.Bool.{Bool, true, false}
 use Prim.Native.Nat.{ℕ, suc, _≤_, _<_}
 use native.Mathlib.Omega.{arith}
 use Rattle.word.specs.Base.{pick}
-use Rattle.queue.specs.Queue.{Links, linkOf, Part, Back, Clean, Queue, Walk, Full, Mine, Agree, relog}
+use Rattle.queue.specs.Queue.{Links, linkIn, Interval, Back, Clean, Queue, Walker, Full, Mine, Agree, relog}
 use Rattle.queue.specs.Queue.{queue-agree, mine-agree}
 
 -- looks: leaves the queue as it is (a contended reader, an owner that saw hands off); changes: the owner that will
 -- take something off; alone: a downgrade, on what it has taken
-pub data Kind : Type 0 where
-  looks : Kind
-  changes : Kind
-  alone : Kind
+pub data WalkKind : Type 0 where
+  looks : WalkKind
+  changes : WalkKind
+  alone : WalkKind
 
 pub data Role : Type 0 where
   none : Role
   ready : Bool → ℕ → Role
-  walk : Kind → ℕ → ℕ → Role
-  past : Kind → ℕ → ℕ → Role
-  link : Kind → ℕ → ℕ → ℕ → Role
-  head : Kind → ℕ → ℕ → Role
+  walk : WalkKind → ℕ → ℕ → Role
+  past : WalkKind → ℕ → ℕ → Role
+  link : WalkKind → ℕ → ℕ → ℕ → Role
+  head : WalkKind → ℕ → ℕ → Role
   split : ℕ → ℕ → ℕ → Role
   aside : ℕ → ℕ → Role
   undo : ℕ → ℕ → ℕ → Role
@@ -33,17 +33,17 @@ pub data Role : Type 0 where
 
 -- ── what a role tells the others ──
 
-abbrev pub public : Kind → Bool
+abbrev pub public : WalkKind → Bool
 public looks = true
 public changes = true
 public alone = false
 
-abbrev pub modifies : Kind → Bool
+abbrev pub modifies : WalkKind → Bool
 modifies looks = false
 modifies changes = true
 modifies alone = false
 
-modifies-public : (k : Kind) → modifies k ≡ true → public k ≡ true
+modifies-public : (k : WalkKind) → modifies k ≡ true → public k ≡ true
 modifies-public looks e = refl
 modifies-public changes e = refl
 modifies-public alone e = e
@@ -92,95 +92,95 @@ filled (store _ _) = false
 
 -- ── what a role knows: q is the queue, p what the thread has taken off ──
 
-abbrev pub on : Kind → Part → Part → Part
-on looks q p = q
-on changes q p = q
-on alone q p = p
+abbrev pub walkedOn : WalkKind → Interval → Interval → Interval
+walkedOn looks q p = q
+walkedOn changes q p = q
+walkedOn alone q p = p
 
-abbrev pub Ground : Kind → Part → Links → Type 0
+abbrev pub Ground : WalkKind → Interval → Links → Type 0
 Ground looks p l = p .hi ≤ p .lo
 Ground changes p l = p .hi ≤ p .lo
 Ground alone p l = Queue p l
 
-abbrev pub Over : Kind → Part → Links → ℕ → Type 0
+abbrev pub Over : WalkKind → Interval → Links → ℕ → Type 0
 Over looks x l h = Unit {0}
 Over changes x l h = Clean x l h
 Over alone x l h = suc h ≡ x .hi
 
-pub record WalkAt (k : Kind) (q p : Part) (l : Links) (hd cu : ℕ) : Type 0 where
+pub record WalkAt (k : WalkKind) (q p : Interval) (l : Links) (hd cu : ℕ) : Type 0 where
   pub h : ℕ
   pub c : ℕ
-  pub ish : on k q p .log h ≡ hd
-  pub isc : on k q p .log c ≡ cu
-  pub way : Walk (on k q p) l h c
+  pub ish : walkedOn k q p .log h ≡ hd
+  pub isc : walkedOn k q p .log c ≡ cu
+  pub way : Walker (walkedOn k q p) l h c
   pub ground : Ground k p l
-  pub over : Over k (on k q p) l h
+  pub over : Over k (walkedOn k q p) l h
 
 -- stands at ticket d + 1, above the floor
-pub record PastAt (k : Kind) (q p : Part) (l : Links) (hd cu : ℕ) : Type 0 where
+pub record PastAt (k : WalkKind) (q p : Interval) (l : Links) (hd cu : ℕ) : Type 0 where
   pub h : ℕ
   pub d : ℕ
-  pub ish : on k q p .log h ≡ hd
-  pub isc : on k q p .log (suc d) ≡ cu
-  pub low : on k q p .fl ≤ d
-  pub way : Walk (on k q p) l h (suc d)
+  pub ish : walkedOn k q p .log h ≡ hd
+  pub isc : walkedOn k q p .log (suc d) ≡ cu
+  pub low : walkedOn k q p .fl ≤ d
+  pub way : Walker (walkedOn k q p) l h (suc d)
   pub ground : Ground k p l
-  pub over : Over k (on k q p) l h
+  pub over : Over k (walkedOn k q p) l h
 
-pub record LinkAt (k : Kind) (q p : Part) (l : Links) (hd cu nn : ℕ) : Type 0 where
+pub record LinkAt (k : WalkKind) (q p : Interval) (l : Links) (hd cu nn : ℕ) : Type 0 where
   pub past : PastAt k q p l hd cu
-  pub isn : on k q p .log (past .d) ≡ nn
+  pub isn : walkedOn k q p .log (past .d) ≡ nn
 
-pub record HeadAt (k : Kind) (q p : Part) (l : Links) (hd tail : ℕ) : Type 0 where
+pub record HeadAt (k : WalkKind) (q p : Interval) (l : Links) (hd tail : ℕ) : Type 0 where
   pub h : ℕ
-  pub ish : on k q p .log h ≡ hd
-  pub ist : on k q p .log (on k q p .lo) ≡ tail
-  pub way : Full (on k q p) l h
+  pub ish : walkedOn k q p .log h ≡ hd
+  pub ist : walkedOn k q p .log (walkedOn k q p .lo) ≡ tail
+  pub way : Full (walkedOn k q p) l h
   pub ground : Ground k p l
-  pub over : Over k (on k q p) l h
+  pub over : Over k (walkedOn k q p) l h
 
-pub record SplitAt (q p : Part) (l : Links) (hd tail prev : ℕ) : Type 0 where
+pub record SplitAt (q p : Interval) (l : Links) (hd tail prev : ℕ) : Type 0 where
   pub it : HeadAt changes q p l hd tail
   pub more : q .lo < it .h
   pub isp : q .log (suc (q .lo)) ≡ prev
 
 -- the head is the floor, and the thread has the ticket below the queue's oldest
-pub record AsideAt (q p : Part) (l : Links) (hd tail : ℕ) : Type 0 where
+pub record AsideAt (q p : Interval) (l : Links) (hd tail : ℕ) : Type 0 where
   pub one : suc (p .lo) ≡ q .lo
   pub end : p .hi ≡ q .lo
   pub ish : q .log (q .fl) ≡ hd
   pub ist : p .log (p .lo) ≡ tail
   pub base : q .lo ≤ q .fl
   pub top : q .fl < q .hi
-  pub nxt : linkOf (l .nx (q .log (q .lo))) ≡ p .log (p .lo)
+  pub nxt : linkIn (l .nx (q .log (q .lo))) ≡ p .log (p .lo)
   pub prv : l .pv (p .log (p .lo)) ≡ q .log (q .lo)
   pub clean : Clean q l (q .fl)
 
-pub record UndoAt (q p : Part) (l : Links) (hd tail rp : ℕ) : Type 0 where
+pub record UndoAt (q p : Interval) (l : Links) (hd tail rp : ℕ) : Type 0 where
   pub it : AsideAt q p l hd tail
   pub r : ℕ
   pub isr : q .log r ≡ rp
   pub low : q .fl ≤ r
   pub top : r < q .hi
 
-pub record WakeAt (p : Part) (l : Links) (cu : ℕ) : Type 0 where
+pub record WakeAt (p : Interval) (l : Links) (cu : ℕ) : Type 0 where
   pub some : p .lo < p .hi
   pub isc : p .log (p .lo) ≡ cu
   pub mine : Mine p l (p .lo)
 
-pub record StoreAt (p : Part) (l : Links) (cu prev : ℕ) : Type 0 where
+pub record StoreAt (p : Interval) (l : Links) (cu prev : ℕ) : Type 0 where
   pub some : p .lo < p .hi
   pub isc : p .log (p .lo) ≡ cu
   pub rest : ((suc (p .lo) ≡ p .hi) × (prev ≡ 0)) ⊎ ((suc (p .lo) < p .hi) × (p .log (suc (p .lo)) ≡ prev))
   pub mine : Mine p l (suc (p .lo))
 
-pub record ReadyAt (p : Part) (l : Links) (k : ℕ) (first : Bool) (v : ℕ) : Type 0 where
+pub record ReadyAt (p : Interval) (l : Links) (k : ℕ) (first : Bool) (v : ℕ) : Type 0 where
   pub empty : p .hi ≤ p .lo
   pub nx : l .nx k ≡ v
   pub pv : l .pv k ≡ 0
   pub tl : l .tl k ≡ pick first k 0
 
-abbrev pub Know : Part → Part → Links → ℕ → Role → Type 0
+abbrev pub Know : Interval → Interval → Links → ℕ → Role → Type 0
 Know q p l t none = p .hi ≤ p .lo
 Know q p l t (ready b v) = ReadyAt p l (suc t) b v
 Know q p l t (walk k hd cu) = WalkAt k q p l hd cu
@@ -210,7 +210,7 @@ changing-on (store _ _) e = e
 -- ── the frame ──
 
 -- for walkers: oldest and floor stay, right prevs stay right; newer nodes may come
-pub record Still (x x′ : Part) (l l′ : Links) : Type 0 where
+pub record Still (x x′ : Interval) (l l′ : Links) : Type 0 where
   pub lo : x′ .lo ≡ x .lo
   pub fl : x′ .fl ≡ x .fl
   pub hi : x .hi ≤ x′ .hi
@@ -218,7 +218,7 @@ pub record Still (x x′ : Part) (l l′ : Links) : Type 0 where
   pub back : (i : ℕ) → x .lo ≤ i → suc i < x .hi → l .pv (x .log i) ≡ x .log (suc i)
       → l′ .pv (x′ .log i) ≡ x′ .log (suc i)
 
-abbrev pub KeepsClean : Part → Part → Links → Links → Type 0
+abbrev pub KeepsClean : Interval → Interval → Links → Links → Type 0
 KeepsClean q q′ l l′ = (h : ℕ) → q .fl ≤ h → Clean q l h → Clean q′ l′ h
 
 pub record Untouched (l l′ : Links) (k : ℕ) : Type 0 where
@@ -227,18 +227,18 @@ pub record Untouched (l l′ : Links) (k : ℕ) : Type 0 where
   pub tl : l′ .tl k ≡ l .tl k
 
 -- what a step of another thread leaves alone for thread t in role r
-pub record Frame (q q′ p : Part) (log′ : ℕ → ℕ) (l l′ : Links) (t : ℕ) (r : Role) : Type 0 where
+pub record Frame (q q′ p : Interval) (log′ : ℕ → ℕ) (l l′ : Links) (t : ℕ) (r : Role) : Type 0 where
   pub taken : Agree p log′ l l′
   pub node : filled r ≡ true → Untouched l l′ (suc t)
   pub still : onQueue r ≡ true → Still q q′ l l′
   pub clean : changing r ≡ true → KeepsClean q q′ l l′
   pub below : changing r ≡ true → q .lo < q .hi → l′ .nx (q .log (q .lo)) ≡ l .nx (q .log (q .lo))
 
-module _ {x x′ : Part} {l l′ : Links} (s : Still x x′ l l′) where
+module _ {x x′ : Interval} {l l′ : Links} (s : Still x x′ l l′) where
   back-still : (a b : ℕ) → x .lo ≤ a → b < x .hi → Back x l a b → Back x′ l′ a b
   back-still a b al bh k j y z = s .back j (omega arith) (omega arith) (k j y z)
 
-  walk-still : (h c : ℕ) → Walk x l h c → Walk x′ l′ h c
+  walk-still : (h c : ℕ) → Walker x l h c → Walker x′ l′ h c
   walk-still h c
       w = record {
         base = omega arith;
@@ -262,7 +262,7 @@ module _ {x x′ : Part} {l l′ : Links} (s : Still x x′ l l′) where
   lo-still : (v : ℕ) → x .lo < x .hi → x .log (x .lo) ≡ v → x′ .log (x′ .lo) ≡ v
   lo-still v a e = rw (s .lo) (log-still (x .lo) v (omega arith) a e)
 
-pub agree-still : {p : Part} {log′ : ℕ → ℕ} {l l′ : Links} → Agree p log′ l l′ → Still p (relog p log′) l l′
+pub agree-still : {p : Interval} {log′ : ℕ → ℕ} {l l′ : Links} → Agree p log′ l l′ → Still p (relog p log′) l l′
 agree-still a = record {
   lo = refl;
   fl = refl;
@@ -272,8 +272,8 @@ agree-still a = record {
 }
 
 -- what it has taken off
-module _ {p : Part} {log′ : ℕ → ℕ} {l l′ : Links} (mine : Agree p log′ l l′) where
-  ground-on : (k : Kind) → Ground k p l → Ground k (relog p log′) l′
+module _ {p : Interval} {log′ : ℕ → ℕ} {l l′ : Links} (mine : Agree p log′ l l′) where
+  ground-on : (k : WalkKind) → Ground k p l → Ground k (relog p log′) l′
   ground-on looks e = e
   ground-on changes e = e
   ground-on alone v = queue-agree mine v
@@ -301,31 +301,34 @@ module _ {p : Part} {log′ : ℕ → ℕ} {l l′ : Links} (mine : Agree p log�
       go (inr z) = inr (z .0, mine .log (suc (p .lo)) (omega arith) (z .0) ∙ z .1)
 
 -- a walker's, whatever its kind
-module _ {q q′ p : Part} {log′ : ℕ → ℕ} {l l′ : Links} (mine : Agree p log′ l l′) (k : Kind)
+module _ {q q′ p : Interval} {log′ : ℕ → ℕ} {l l′ : Links} (mine : Agree p log′ l l′) (k : WalkKind)
     (st : public k ≡ true → Still q q′ l l′) (cl : modifies k ≡ true → KeepsClean q q′ l l′) where
-  s : Still (on k q p) (on k q′ (relog p log′)) l l′
+  s : Still (walkedOn k q p) (walkedOn k q′ (relog p log′)) l l′
   s = by k st
     where
-      by : (k : Kind) → (public k ≡ true → Still q q′ l l′) → Still (on k q p) (on k q′ (relog p log′)) l l′
+      by : (k : WalkKind) → (public k ≡ true → Still q q′ l l′)
+          → Still (walkedOn k q p) (walkedOn k q′ (relog p log′)) l l′
       by looks st = st refl
       by changes st = st refl
       by alone st = agree-still mine
 
-  over-on : (h : ℕ) → on k q p .fl ≤ h → Over k (on k q p) l h → Over k (on k q′ (relog p log′)) l′ h
+  over-on : (h : ℕ) → walkedOn k q p .fl ≤ h → Over k (walkedOn k q p) l h → Over k (walkedOn k q′ (relog p log′)) l′ h
   over-on = by k cl
     where
-      by : (k : Kind) → (modifies k ≡ true → KeepsClean q q′ l l′) → (h : ℕ) → on k q p .fl ≤ h → Over k (on k q p) l h
-          → Over k (on k q′ (relog p log′)) l′ h
+      by : (k : WalkKind) → (modifies k ≡ true → KeepsClean q q′ l l′) → (h : ℕ) → walkedOn k q p .fl ≤ h
+          → Over k (walkedOn k q p) l h
+          → Over k (walkedOn k q′ (relog p log′)) l′ h
       by looks cl h a o = tt
       by changes cl h a o = cl refl h a o
       by alone cl h a o = o
 
-  log-on : (i v : ℕ) → on k q p .lo ≤ i → i < on k q p .hi → on k q p .log i ≡ v → on k q′ (relog p log′) .log i ≡ v
+  log-on : (i v : ℕ) → walkedOn k q p .lo ≤ i → i < walkedOn k q p .hi → walkedOn k q p .log i ≡ v
+      → walkedOn k q′ (relog p log′) .log i ≡ v
   log-on = log-still s
 
   walk-frame : (hd cu : ℕ) → WalkAt k q p l hd cu → WalkAt k q′ (relog p log′) l′ hd cu
   walk-frame hd cu w =
-      let y : Walk (on k q p) l (w .h) (w .c) = w .way in
+      let y : Walker (walkedOn k q p) l (w .h) (w .c) = w .way in
       record {
         h = w .h;
         c = w .c;
@@ -338,7 +341,7 @@ module _ {q q′ p : Part} {log′ : ℕ → ℕ} {l l′ : Links} (mine : Agree
 
   past-frame : (hd cu : ℕ) → PastAt k q p l hd cu → PastAt k q′ (relog p log′) l′ hd cu
   past-frame hd cu w =
-      let y : Walk (on k q p) l (w .h) (suc (w .d)) = w .way in
+      let y : Walker (walkedOn k q p) l (w .h) (suc (w .d)) = w .way in
       record {
         h = w .h;
         d = w .d;
@@ -353,7 +356,7 @@ module _ {q q′ p : Part} {log′ : ℕ → ℕ} {l l′ : Links} (mine : Agree
   link-frame : (hd cu nn : ℕ) → LinkAt k q p l hd cu nn → LinkAt k q′ (relog p log′) l′ hd cu nn
   unfolding past-frame
   link-frame hd cu nn w =
-      let y : Walk (on k q p) l (w .past .h) (suc (w .past .d)) = w .past .way in
+      let y : Walker (walkedOn k q p) l (w .past .h) (suc (w .past .d)) = w .past .way in
       record {
         past = past-frame hd cu (w .past);
         isn = log-on (w .past .d) nn (omega (arith, w .past .low)) (omega arith) (w .isn);
@@ -361,7 +364,7 @@ module _ {q q′ p : Part} {log′ : ℕ → ℕ} {l l′ : Links} (mine : Agree
 
   head-frame : (hd tail : ℕ) → HeadAt k q p l hd tail → HeadAt k q′ (relog p log′) l′ hd tail
   head-frame hd tail w =
-      let y : Full (on k q p) l (w .h) = w .way in
+      let y : Full (walkedOn k q p) l (w .h) = w .way in
       record {
         h = w .h;
         ish = log-on (w .h) hd (omega arith) (omega arith) (w .ish);
@@ -372,7 +375,7 @@ module _ {q q′ p : Part} {log′ : ℕ → ℕ} {l l′ : Links} (mine : Agree
       }
 
 -- the changing owner's
-module _ {q q′ p : Part} {log′ : ℕ → ℕ} {l l′ : Links} (mine : Agree p log′ l l′) (s : Still q q′ l l′)
+module _ {q q′ p : Interval} {log′ : ℕ → ℕ} {l l′ : Links} (mine : Agree p log′ l l′) (s : Still q q′ l l′)
     (cl : KeepsClean q q′ l l′) where
   split-frame : (hd tail prev : ℕ) → SplitAt q p l hd tail prev → SplitAt q′ (relog p log′) l′ hd tail prev
   unfolding head-frame
@@ -396,7 +399,7 @@ module _ {q q′ p : Part} {log′ : ℕ → ℕ} {l l′ : Links} (mine : Agree
         ist = a ∙ w .ist;
         base = omega arith;
         top = omega arith;
-        nxt = rw (s .lo, b, a) (ap linkOf (e (omega arith)) ∙ w .nxt);
+        nxt = rw (s .lo, b, a) (ap linkIn (e (omega arith)) ∙ w .nxt);
         prv = rw (s .lo, a, b) (mine .pv (p .lo) (omega arith) (omega arith) ∙ w .prv);
         clean = rw (s .fl) (cl (q .fl) (omega arith) (w .clean));
       }
@@ -411,7 +414,7 @@ module _ {q q′ p : Part} {log′ : ℕ → ℕ} {l l′ : Links} (mine : Agree
     top = omega (arith, s .hi, w .top);
   }
 
-pub know-frame : {q q′ p : Part} {log′ : ℕ → ℕ} {l l′ : Links} {t : ℕ} (r : Role) → Frame q q′ p log′ l l′ t r
+pub know-frame : {q q′ p : Interval} {log′ : ℕ → ℕ} {l l′ : Links} {t : ℕ} (r : Role) → Frame q q′ p log′ l l′ t r
     → Know q p l t r → Know q′ (relog p log′) l′ t r
 know-frame none f w = w
 know-frame {l} {l′} {t} (ready b v) f w =

@@ -10,13 +10,14 @@ use Rattle.queue.specs.Tests.{never}
 use Rattle.queue.specs.Updates.{upd, upd-same, upd-other, eq?}
 use Rattle.queue.specs.Queue.{Queue, Full, setTl}
 use Rattle.queue.specs.Queue
-use Rattle.queue.specs.Tickets.{Ghost, queueOf, spanPart, takenOf, Held, asided, oldest, restored, nothing, took}
-use Rattle.queue.specs.Tickets.{whole, completed, rest, parts-aside, parts-restore, parts-take, parts-complete}
+use Rattle.queue.specs.Tickets.{Ghost, ticketsOf, spanInterval, takenBy, Held, asided, oldestSpan, restored}
+use Rattle.queue.specs.Tickets.{emptySpan, took, wholeSpan, completed, restSpan, parts-aside, parts-restore}
+use Rattle.queue.specs.Tickets.{parts-take, parts-complete}
 use Rattle.queue.specs.Roles.{changes, alone, Role, none, walk, head, split, aside, undo, wake, store, filled}
 use Rattle.queue.specs.Roles.{changing-on, WalkAt, HeadAt, SplitAt, AsideAt, UndoAt, WakeAt, StoreAt, Know}
 use Rattle.queue.specs.Roles.{agree-still}
-use Rattle.queue.specs.Invariant.{St, Inv, moved, Lonely, only-tl, Spared, step, turn, told, live, agree-refl}
-use Rattle.queue.specs.Invariant.{spared-on, turned, relinked}
+use Rattle.queue.specs.Invariant.{St, Inv, moved, Lonely, only-tl, Spared, step, turn, role-knows, live}
+use Rattle.queue.specs.Invariant.{agree-refl, spared-queue, turned, relinked}
 
 module _ {g : Ghost} {s : St} (v : Inv g s) (t : ℕ) where
   -- ── set aside, commit, restore ──
@@ -26,13 +27,13 @@ module _ {g : Ghost} {s : St} (v : Inv g s) (t : ℕ) where
       → Inv g (turned s t (split hd tail (s .links .pv tail)))
   load-split hd tail e z = turn g s v t (split hd tail (s .links .pv tail)) (go (eq? (g .lo) (w .h))) (never refl)
     where
-      w : HeadAt changes (queueOf g) (takenOf g t) (s .links) hd tail
-      w = told v t (head changes hd tail) e
+      w : HeadAt changes (ticketsOf g) (takenBy g t) (s .links) hd tail
+      w = role-knows v t (head changes hd tail) e
 
-      go : (g .lo ≡ w .h) ⊎ (g .lo ≢ w .h) → SplitAt (queueOf g) (takenOf g t) (s .links) hd tail (s .links .pv tail)
+      go : (g .lo ≡ w .h) ⊎ (g .lo ≢ w .h) → SplitAt (ticketsOf g) (takenBy g t) (s .links) hd tail (s .links .pv tail)
       go (inl y) = absurd (z (rw (← (w .ist), y) (w .over (w .h) (omega arith) (w .way .top))))
       go (inr ne) =
-          let f : Full (queueOf g) (s .links) (w .h) = w .way in
+          let f : Full (ticketsOf g) (s .links) (w .h) = w .way in
           record {
             it = w;
             more = omega arith;
@@ -43,10 +44,10 @@ module _ {g : Ghost} {s : St} (v : Inv g s) (t : ℕ) where
   pub commit : (hd tail : ℕ) → s .role t ≡ aside hd tail → Inv g (turned s t (store tail 0))
   commit hd tail e = turn g s v t (store tail 0) it (never refl)
     where
-      w : AsideAt (queueOf g) (takenOf g t) (s .links) hd tail
-      w = told v t (aside hd tail) e
+      w : AsideAt (ticketsOf g) (takenBy g t) (s .links) hd tail
+      w = role-knows v t (aside hd tail) e
 
-      it : StoreAt (takenOf g t) (s .links) tail 0
+      it : StoreAt (takenBy g t) (s .links) tail 0
       it = record {
         some = omega (arith, w .one, w .end);
         isc = w .ist;
@@ -64,8 +65,8 @@ module _ {g : Ghost} {s : St} (v : Inv g s) (t : ℕ) where
       turn g s v t (undo hd tail rp)
       (record { it = w; r = p; isr = is; low = omega (arith, w .top); top = omega arith }) (never refl)
     where
-      w : AsideAt (queueOf g) (takenOf g t) (s .links) hd tail
-      w = told v t (aside hd tail) e
+      w : AsideAt (ticketsOf g) (takenBy g t) (s .links) hd tail
+      w = role-knows v t (aside hd tail) e
 
   -- the owner stores prev in its head; tk hd is the head's ticket
   pub set-aside : (hd tail prev : ℕ) → s .role t ≡ split hd tail prev → Lonely s t
@@ -76,25 +77,25 @@ module _ {g : Ghost} {s : St} (v : Inv g s) (t : ℕ) where
       (step v t (asided g t h) (setTl (s .links) hd prev) (s .wait) (aside hd tail)
       (parts-aside (v .parts) t h (omega (arith, w .more, f .top)) (w .it .ground))
       (rw (w .it .ish, w .isp) at (Queue.set-aside (live v t) (v .queue) h f (w .more) (w .it .over)))
-      (rw (upd-same (g .taken) t (oldest g)) it)
+      (rw (upd-same (g .taken) t (oldestSpan g)) it)
       (never refl)
-      λ u ne. spared-on v t (setTl (s .links) hd prev) h 0 hj (rw (w .it .ish) (only-tl (s .links) hd prev))
-      (asided g t h) refl u ne (λ z. omega arith) (upd-other (g .taken) t (oldest g) u ne) (never (lone u ne))
+      λ u ne. spared-queue v t (setTl (s .links) hd prev) h 0 hj (rw (w .it .ish) (only-tl (s .links) hd prev))
+      (asided g t h) refl u ne (λ z. omega arith) (upd-other (g .taken) t (oldestSpan g) u ne) (never (lone u ne))
       (λ c. never (lone u ne) (changing-on (s .role u) c)) (λ c. never (lone u ne) (changing-on (s .role u) c)))
     where
-      w : SplitAt (queueOf g) (takenOf g t) (s .links) hd tail prev
-      w = told v t (split hd tail prev) e
+      w : SplitAt (ticketsOf g) (takenBy g t) (s .links) hd tail prev
+      w = role-knows v t (split hd tail prev) e
 
       h : ℕ
       h = w .it .h
 
-      f : Full (queueOf g) (s .links) h
+      f : Full (ticketsOf g) (s .links) h
       f = w .it .way
 
       hj : Held g (s .wait) 0 h
       hj = v .parts .queued h (omega (arith, f .base, f .low)) (f .top)
 
-      it : AsideAt (queueOf (asided g t h)) (spanPart (g .log) (oldest g)) (setTl (s .links) hd prev) hd tail
+      it : AsideAt (ticketsOf (asided g t h)) (spanInterval (g .log) (oldestSpan g)) (setTl (s .links) hd prev) hd tail
       it = record {
         one = refl;
         end = refl;
@@ -116,23 +117,24 @@ module _ {g : Ghost} {s : St} (v : Inv g s) (t : ℕ) where
       (rw (a .ish, a .ist)
       at (Queue.restore (live v t) (v .queue) b (a .one) (omega (arith, a .base, a .top)) (a .nxt) (a .prv)
       (a .clean)))
-      (rw (upd-same (g .taken) t (nothing b)) it)
+      (rw (upd-same (g .taken) t (emptySpan b)) it)
       (never refl)
-      λ u ne. spared-on v t (setTl (s .links) hd tail) (g .fl) 0 (v .parts .queued (g .fl) (a .base) (a .top))
+      λ u ne. spared-queue v t (setTl (s .links) hd tail) (g .fl) 0 (v .parts .queued (g .fl) (a .base) (a .top))
       (rw (a .ish) (only-tl (s .links) hd tail)) (restored g t b) refl u ne (λ z. omega arith)
-      (upd-other (g .taken) t (nothing b) u ne) (never (lone u ne))
+      (upd-other (g .taken) t (emptySpan b) u ne) (never (lone u ne))
       (λ c. never (lone u ne) (changing-on (s .role u) c)) (λ c. never (lone u ne) (changing-on (s .role u) c))
     where
       b : ℕ
       b = g .taken t .beg
 
-      w : UndoAt (queueOf g) (takenOf g t) (s .links) hd tail rp
-      w = told v t (undo hd tail rp) e
+      w : UndoAt (ticketsOf g) (takenBy g t) (s .links) hd tail rp
+      w = role-knows v t (undo hd tail rp) e
 
-      a : AsideAt (queueOf g) (takenOf g t) (s .links) hd tail
+      a : AsideAt (ticketsOf g) (takenBy g t) (s .links) hd tail
       a = w .it
 
-      it : WalkAt changes (queueOf (restored g t b)) (spanPart (g .log) (nothing b)) (setTl (s .links) hd tail) rp rp
+      it : WalkAt changes (ticketsOf (restored g t b)) (spanInterval (g .log) (emptySpan b))
+          (setTl (s .links) hd tail) rp rp
       it = record {
         h = w .r;
         c = w .r;
@@ -154,9 +156,9 @@ module _ {g : Ghost} {s : St} (v : Inv g s) (t : ℕ) where
   -- others hold what they held, and none of them is on the queue
   spared-take : Lonely s t → (u : ℕ) → u ≢ t → Spared g (took g t) s (s .links) (s .wait) u
   spared-take lone u ne = record {
-    taken = upd-other (g .taken) t (whole g) u ne;
+    taken = upd-other (g .taken) t (wholeSpan g) u ne;
     frame = record {
-      taken = agree-refl v t (takenOf g u);
+      taken = agree-refl v t (takenBy g u);
       node = λ _. record { nx = refl; pv = refl; tl = refl };
       still = never (lone u ne);
       clean = λ c. never (lone u ne) (changing-on (s .role u) c);
@@ -170,13 +172,13 @@ module _ {g : Ghost} {s : St} (v : Inv g s) (t : ℕ) where
       → Inv (took g t) (turned s t (wake tail))
   take hd tail p e lone at is =
       step v t (took g t) (s .links) (s .wait) (wake tail) (parts-take (v .parts) t (w .ground))
-      (Queue.empty-queue (g .log) (g .hi) (s .links)) (rw (upd-same (g .taken) t (whole g)) it) (never refl)
+      (Queue.empty-queue (g .log) (g .hi) (s .links)) (rw (upd-same (g .taken) t (wholeSpan g)) it) (never refl)
       (spared-take lone)
     where
-      w : HeadAt changes (queueOf g) (takenOf g t) (s .links) hd tail
-      w = told v t (head changes hd tail) e
+      w : HeadAt changes (ticketsOf g) (takenBy g t) (s .links) hd tail
+      w = role-knows v t (head changes hd tail) e
 
-      f : Full (queueOf g) (s .links) (w .h)
+      f : Full (ticketsOf g) (s .links) (w .h)
       f = w .way
 
       top : w .h ≡ p
@@ -188,7 +190,7 @@ module _ {g : Ghost} {s : St} (v : Inv g s) (t : ℕ) where
               absurd ((live v t) .apart (w .h) p (omega (arith, f .base, f .low)) (f .top)
               (omega (arith, f .base, f .low, f .top)) (omega arith) ne (w .ish ∙ sym is))
 
-      it : WakeAt (spanPart (g .log) (whole g)) (s .links) tail
+      it : WakeAt (spanInterval (g .log) (wholeSpan g)) (s .links) tail
       it = record {
         some = omega (arith, f .base, f .low, f .top);
         isc = w .ist;
@@ -199,11 +201,11 @@ module _ {g : Ghost} {s : St} (v : Inv g s) (t : ℕ) where
   pub take-alone : (hd p : ℕ) → s .role t ≡ none → Lonely s t → suc p ≡ g .hi → g .lo ≤ p → g .log p ≡ hd
       → Inv (took g t) (turned s t (walk alone hd hd))
   take-alone hd p e lone at some is =
-      step v t (took g t) (s .links) (s .wait) (walk alone hd hd) (parts-take (v .parts) t (told v t none e))
-      (Queue.empty-queue (g .log) (g .hi) (s .links)) (rw (upd-same (g .taken) t (whole g)) it) (never refl)
+      step v t (took g t) (s .links) (s .wait) (walk alone hd hd) (parts-take (v .parts) t (role-knows v t none e))
+      (Queue.empty-queue (g .log) (g .hi) (s .links)) (rw (upd-same (g .taken) t (wholeSpan g)) it) (never refl)
       (spared-take lone)
     where
-      it : WalkAt alone (queueOf (took g t)) (spanPart (g .log) (whole g)) (s .links) hd hd
+      it : WalkAt alone (ticketsOf (took g t)) (spanInterval (g .log) (wholeSpan g)) (s .links) hd hd
       it = record {
         h = p;
         c = p;
@@ -242,8 +244,8 @@ module _ {g : Ghost} {s : St} (v : Inv g s) (t : ℕ) where
       b : ℕ
       b = g .taken t .end
 
-      w : WakeAt (takenOf g t) (s .links) cu
-      w = told v t (wake cu) e
+      w : WakeAt (takenBy g t) (s .links) cu
+      w = role-knows v t (wake cu) e
 
       go : (suc a ≡ b) ⊎ (suc a ≢ b)
           → ((suc a ≡ b) × (s .links .pv cu ≡ 0)) ⊎ ((suc a < b) × (g .log (suc a) ≡ s .links .pv cu))
@@ -256,20 +258,20 @@ module _ {g : Ghost} {s : St} (v : Inv g s) (t : ℕ) where
 
   completing : (cu : ℕ) → g .taken t .beg < g .taken t .end → g .log (g .taken t .beg) ≡ cu → (r : Role)
       → filled r ≡ false
-      → Know (queueOf g) (spanPart (g .log) (rest g t)) (s .links) t r
+      → Know (ticketsOf g) (spanInterval (g .log) (restSpan g t)) (s .links) t r
       → Inv (completed g t) (moved s t (s .links) (upd (s .wait) cu false) r)
   completing cu some is r nf k =
       step v t (completed g t) (s .links) (upd (s .wait) cu false) r
       (rw is at (parts-complete (v .parts) t some))
       (v .queue)
-      (rw (upd-same (g .taken) t (rest g t)) k)
+      (rw (upd-same (g .taken) t (restSpan g t)) k)
       (never nf)
       λ u ne. record {
-        taken = upd-other (g .taken) t (rest g t) u ne;
+        taken = upd-other (g .taken) t (restSpan g t) u ne;
         frame = record {
-          taken = agree-refl v t (takenOf g u);
+          taken = agree-refl v t (takenBy g u);
           node = λ _. record { nx = refl; pv = refl; tl = refl };
-          still = λ _. agree-still (agree-refl v t (queueOf g));
+          still = λ _. agree-still (agree-refl v t (ticketsOf g));
           clean = λ _ h a c. c;
           below = λ _ b. refl;
         };
@@ -284,12 +286,12 @@ module _ {g : Ghost} {s : St} (v : Inv g s) (t : ℕ) where
       → Inv (completed g t) (moved s t (s .links) (upd (s .wait) cu false) (wake prev))
   complete-more cu prev e nz = completing cu (w .some) (w .isc) (wake prev) refl (go (w .rest))
     where
-      w : StoreAt (takenOf g t) (s .links) cu prev
-      w = told v t (store cu prev) e
+      w : StoreAt (takenBy g t) (s .links) cu prev
+      w = role-knows v t (store cu prev) e
 
       go : ((suc (g .taken t .beg) ≡ g .taken t .end) × (prev ≡ 0))
           ⊎ ((suc (g .taken t .beg) < g .taken t .end) × (g .log (suc (g .taken t .beg)) ≡ prev))
-          → WakeAt (spanPart (g .log) (rest g t)) (s .links) prev
+          → WakeAt (spanInterval (g .log) (restSpan g t)) (s .links) prev
       go (inl z) = absurd (nz (z .1))
       go (inr z) = record { some = z .0; isc = z .1; mine = record { back = w .mine .back; newest = w .mine .newest } }
 
@@ -297,8 +299,8 @@ module _ {g : Ghost} {s : St} (v : Inv g s) (t : ℕ) where
       → Inv (completed g t) (moved s t (s .links) (upd (s .wait) cu false) none)
   complete-last cu e = completing cu (w .some) (w .isc) none refl (go (w .rest))
     where
-      w : StoreAt (takenOf g t) (s .links) cu 0
-      w = told v t (store cu 0) e
+      w : StoreAt (takenBy g t) (s .links) cu 0
+      w = role-knows v t (store cu 0) e
 
       go : ((suc (g .taken t .beg) ≡ g .taken t .end) × (_≡_ {A = ℕ} 0 0))
           ⊎ ((suc (g .taken t .beg) < g .taken t .end) × (g .log (suc (g .taken t .beg)) ≡ 0))

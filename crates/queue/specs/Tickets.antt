@@ -12,7 +12,7 @@ use lib.Dec.{eqb}
 use borrow.Author.Tests.{ne-eqb}
 use Rattle.word.specs.Base.{pick}
 use Rattle.queue.specs.Updates.{upd, upd-same, upd-other, upd-cases, eq?}
-use Rattle.queue.specs.Queue.{Part, Live}
+use Rattle.queue.specs.Queue.{Interval, Live}
 
 -- what a thread has taken off: tickets beg .. end - 1, and the floor of its tails
 pub record Span : Type 0 where
@@ -31,14 +31,14 @@ pub record Ghost : Type 0 where
   pub fl : ℕ
   pub taken : ℕ → Span
 
-abbrev pub queueOf : Ghost → Part
-queueOf g = record { log = g .log; lo = g .lo; hi = g .hi; fl = g .fl }
+abbrev pub ticketsOf : Ghost → Interval
+ticketsOf g = record { log = g .log; lo = g .lo; hi = g .hi; fl = g .fl }
 
-abbrev pub spanPart : (ℕ → ℕ) → Span → Part
-spanPart log s = record { log = log; lo = s .beg; hi = s .end; fl = s .flo }
+abbrev pub spanInterval : (ℕ → ℕ) → Span → Interval
+spanInterval log s = record { log = log; lo = s .beg; hi = s .end; fl = s .flo }
 
-abbrev pub takenOf : Ghost → ℕ → Part
-takenOf g t = spanPart (g .log) (g .taken t)
+abbrev pub takenBy : Ghost → ℕ → Interval
+takenBy g t = spanInterval (g .log) (g .taken t)
 
 -- ticket i is held by o, and its node waits
 pub record Held (g : Ghost) (wait : ℕ → Bool) (o i : ℕ) : Type 0 where
@@ -47,12 +47,12 @@ pub record Held (g : Ghost) (wait : ℕ → Bool) (o i : ℕ) : Type 0 where
   pub some : g .log i ≢ 0
   pub waits : wait (g .log i) ≡ true
 
-abbrev pub Among : (ℕ → Span) → ℕ → Type 0
-Among f i = (t : ℕ) × (f t .beg ≤ i) × (i < f t .end)
+abbrev pub WithThread : (ℕ → Span) → ℕ → Type 0
+WithThread f i = (t : ℕ) × (f t .beg ≤ i) × (i < f t .end)
 
 -- ticket i is in the queue or with a thread
 abbrev pub Somewhere : Ghost → ℕ → Type 0
-Somewhere g i = ((g .lo ≤ i) × (i < g .hi)) ⊎ Among (g .taken) i
+Somewhere g i = ((g .lo ≤ i) × (i < g .hi)) ⊎ WithThread (g .taken) i
 
 abbrev pub HeldBy : Ghost → (ℕ → Bool) → ℕ → Span → Type 0
 HeldBy g wait t s = (i : ℕ) → s .beg ≤ i → i < s .end → (i < g .hi) × Held g wait (suc t) i
@@ -77,8 +77,8 @@ registered g k = record {
   taken = g .taken;
 }
 
-abbrev pub oldest : Ghost → Span
-oldest g = record { beg = g .lo; end = suc (g .lo); flo = g .lo }
+abbrev pub oldestSpan : Ghost → Span
+oldestSpan g = record { beg = g .lo; end = suc (g .lo); flo = g .lo }
 
 -- thread t gets the oldest; the floor becomes h
 abbrev pub asided : Ghost → ℕ → ℕ → Ghost
@@ -89,11 +89,11 @@ asided g t h = record {
   lo = suc (g .lo);
   hi = g .hi;
   fl = h;
-  taken = upd (g .taken) t (oldest g);
+  taken = upd (g .taken) t (oldestSpan g);
 }
 
-abbrev pub nothing : ℕ → Span
-nothing b = record { beg = b; end = b; flo = b }
+abbrev pub emptySpan : ℕ → Span
+emptySpan b = record { beg = b; end = b; flo = b }
 
 -- what thread t holds, ticket b, goes back
 abbrev pub restored : Ghost → ℕ → ℕ → Ghost
@@ -104,11 +104,11 @@ restored g t b = record {
   lo = b;
   hi = g .hi;
   fl = g .fl;
-  taken = upd (g .taken) t (nothing b);
+  taken = upd (g .taken) t (emptySpan b);
 }
 
-abbrev pub whole : Ghost → Span
-whole g = record { beg = g .lo; end = g .hi; flo = g .fl }
+abbrev pub wholeSpan : Ghost → Span
+wholeSpan g = record { beg = g .lo; end = g .hi; flo = g .fl }
 
 -- thread t gets the whole queue
 abbrev pub took : Ghost → ℕ → Ghost
@@ -119,11 +119,11 @@ took g t = record {
   lo = g .hi;
   hi = g .hi;
   fl = g .hi;
-  taken = upd (g .taken) t (whole g);
+  taken = upd (g .taken) t (wholeSpan g);
 }
 
-abbrev pub rest : Ghost → ℕ → Span
-rest g t = record { beg = suc (g .taken t .beg); end = g .taken t .end; flo = g .taken t .flo }
+abbrev pub restSpan : Ghost → ℕ → Span
+restSpan g t = record { beg = suc (g .taken t .beg); end = g .taken t .end; flo = g .taken t .flo }
 
 -- thread t's oldest no longer waits
 abbrev pub completed : Ghost → ℕ → Ghost
@@ -134,15 +134,15 @@ completed g t = record {
   lo = g .lo;
   hi = g .hi;
   fl = g .fl;
-  taken = upd (g .taken) t (rest g t);
+  taken = upd (g .taken) t (restSpan g t);
 }
 
 -- thread t's interval is replaced
 module _ (f : ℕ → Span) (t : ℕ) (s : Span) (i : ℕ) where
-  among-new : s .beg ≤ i → i < s .end → Among (upd f t s) i
+  among-new : s .beg ≤ i → i < s .end → WithThread (upd f t s) i
   among-new a b = (t, rw (upd-same f t s) a, rw (upd-same f t s) b)
 
-  among-old : {A : Type 0} → (Among (upd f t s) i → A) → (f t .beg ≤ i → i < f t .end → A) → Among f i → A
+  among-old : {A : Type 0} → (WithThread (upd f t s) i → A) → (f t .beg ≤ i → i < f t .end → A) → WithThread f i → A
   among-old {A = A} there here x = go (eq? (x .0) t)
     where
       go : (x .0 ≡ t) ⊎ (x .0 ≢ t) → A
@@ -152,24 +152,24 @@ module _ (f : ℕ → Span) (t : ℕ) (s : Span) (i : ℕ) where
 module _ {g : Ghost} {wait : ℕ → Bool} (v : Parts g wait) where
   -- ── nodes that differ ──
 
-  pub one-node : (i j a b : ℕ) → Held g wait a i → Held g wait b j → i ≢ j → g .log i ≢ g .log j
-  one-node i j a b x y ne e = ne (sym (x .tk) ∙ ap (g .tk) e ∙ y .tk)
+  pub tickets-apart : (i j a b : ℕ) → Held g wait a i → Held g wait b j → i ≢ j → g .log i ≢ g .log j
+  tickets-apart i j a b x y ne e = ne (sym (x .tk) ∙ ap (g .tk) e ∙ y .tk)
 
-  pub one-owner : (i j a b : ℕ) → Held g wait a i → Held g wait b j → a ≢ b → g .log i ≢ g .log j
-  one-owner i j a b x y ne e = ne (sym (x .own) ∙ ap (g .own) (sym (x .tk) ∙ ap (g .tk) e ∙ y .tk) ∙ y .own)
+  pub owners-apart : (i j a b : ℕ) → Held g wait a i → Held g wait b j → a ≢ b → g .log i ≢ g .log j
+  owners-apart i j a b x y ne e = ne (sym (x .own) ∙ ap (g .own) (sym (x .tk) ∙ ap (g .tk) e ∙ y .tk) ∙ y .own)
 
-  pub waiting : (i o k : ℕ) → Held g wait o i → wait k ≡ false → g .log i ≢ k
-  waiting i o k x e z = false≢true (sym e ∙ ap wait (sym z) ∙ x .waits)
+  pub waiting-apart : (i o k : ℕ) → Held g wait o i → wait k ≡ false → g .log i ≢ k
+  waiting-apart i o k x e z = false≢true (sym e ∙ ap wait (sym z) ∙ x .waits)
 
-  pub live-queue : Live (queueOf g)
+  pub live-queue : Live (ticketsOf g)
   live-queue = record {
-    apart = λ i j a b c d ne. one-node i j 0 0 (v .queued i a b) (v .queued j c d) ne;
+    apart = λ i j a b c d ne. tickets-apart i j 0 0 (v .queued i a b) (v .queued j c d) ne;
     some = λ i a b. v .queued i a b .some;
   }
 
-  pub live-taken : (t : ℕ) → Live (takenOf g t)
+  pub live-taken : (t : ℕ) → Live (takenBy g t)
   live-taken t = record {
-    apart = λ i j a b c d ne. one-node i j (suc t) (suc t) (v .held t i a b .1) (v .held t j c d .1) ne;
+    apart = λ i j a b c d ne. tickets-apart i j (suc t) (suc t) (v .held t i a b .1) (v .held t j c d .1) ne;
     some = λ i a b. v .held t i a b .1 .some;
   }
 
@@ -191,9 +191,9 @@ module _ {g : Ghost} {wait : ℕ → Bool} (v : Parts g wait) where
       keep : (o i : ℕ) → i < g .hi → Held g wait o i → Held (registered g k) (upd wait k true) o i
       keep o i h x = record {
         own = rw (upd-other (g .own) (g .hi) 0 i (λ z. omega arith)) (x .own);
-        tk = rw (log-below k i h, upd-other (g .tk) k (g .hi) (g .log i) (waiting i o k x e)) (x .tk);
+        tk = rw (log-below k i h, upd-other (g .tk) k (g .hi) (g .log i) (waiting-apart i o k x e)) (x .tk);
         some = rw (log-below k i h) (x .some);
-        waits = rw (log-below k i h, upd-other wait k true (g .log i) (waiting i o k x e)) (x .waits);
+        waits = rw (log-below k i h, upd-other wait k true (g .log i) (waiting-apart i o k x e)) (x .waits);
       }
 
       queued′ : (i : ℕ) → g .lo ≤ i → (i ≡ g .hi) ⊎ (i ≢ g .hi) → i < suc (g .hi)
@@ -229,7 +229,7 @@ module _ {g : Ghost} {wait : ℕ → Bool} (v : Parts g wait) where
     parts-aside h s none = record {
       order = s;
       queued = λ i a b. keep 0 i (λ e. omega arith) (v .queued i (omega arith) b);
-      held = upd-cases (HeldBy (asided g t h) wait) (g .taken) t (oldest g)
+      held = upd-cases (HeldBy (asided g t h) wait) (g .taken) t (oldestSpan g)
           (λ i a b. (omega arith, it i (omega arith)))
           (λ u ne i a b. let x : (i < g .hi) × Held g wait (suc u) i = v .held u i a b in
           (x .0, keep (suc u) i (other u i (x .1)) (x .1)));
@@ -261,9 +261,9 @@ module _ {g : Ghost} {wait : ℕ → Bool} (v : Parts g wait) where
         somewhere i (inl x) = go (eq? i (g .lo))
           where
             go : (i ≡ g .lo) ⊎ (i ≢ g .lo) → Somewhere (asided g t h) i
-            go (inl e) = inr (among-new (g .taken) t (oldest g) i (omega arith) (omega arith))
+            go (inl e) = inr (among-new (g .taken) t (oldestSpan g) i (omega arith) (omega arith))
             go (inr ne) = inl (omega arith, x .1)
-        somewhere i (inr x) = among-old (g .taken) t (oldest g) i (λ y. inr y) (λ a b. absurd (omega arith)) x
+        somewhere i (inr x) = among-old (g .taken) t (oldestSpan g) i (λ y. inr y) (λ a b. absurd (omega arith)) x
 
     -- ── restore: ticket b, all that thread t holds, goes back ──
 
@@ -272,7 +272,7 @@ module _ {g : Ghost} {wait : ℕ → Bool} (v : Parts g wait) where
     parts-restore b eb e₁ e₂ = record {
       order = omega (arith, v .order);
       queued = λ i a k. queued′ i a k (eq? i b);
-      held = upd-cases (HeldBy (restored g t b) wait) (g .taken) t (nothing b)
+      held = upd-cases (HeldBy (restored g t b) wait) (g .taken) t (emptySpan b)
           (λ i a k. absurd (omega arith))
           (λ u ne i a k. let x : (i < g .hi) × Held g wait (suc u) i = v .held u i a k in
           (x .0, keep (suc u) i (other u ne i (x .1)) (x .1)));
@@ -309,7 +309,7 @@ module _ {g : Ghost} {wait : ℕ → Bool} (v : Parts g wait) where
         somewhere : (i : ℕ) → Somewhere g i → Somewhere (restored g t b) i
         somewhere i (inl x) = inl (omega arith, x .1)
         somewhere i (inr x) =
-            among-old (g .taken) t (nothing b) i (λ y. inr y)
+            among-old (g .taken) t (emptySpan b) i (λ y. inr y)
             (λ a k. inl (omega arith, omega (arith, v .held t i a k .0))) x
 
     -- ── take: thread t gets the whole queue ──
@@ -318,7 +318,7 @@ module _ {g : Ghost} {wait : ℕ → Bool} (v : Parts g wait) where
     parts-take none = record {
       order = omega arith;
       queued = λ i a b. absurd (omega arith);
-      held = upd-cases (HeldBy (took g t) wait) (g .taken) t (whole g)
+      held = upd-cases (HeldBy (took g t) wait) (g .taken) t (wholeSpan g)
           (λ i a b. (b, it i (v .queued i a b)))
           (λ u ne i a b. let x : (i < g .hi) × Held g wait (suc u) i = v .held u i a b in (x .0, keep u i (x .1)));
       cover = λ k w. (v .cover k w .0, somewhere (g .tk k) (v .cover k w .1));
@@ -336,8 +336,8 @@ module _ {g : Ghost} {wait : ℕ → Bool} (v : Parts g wait) where
         }
 
         somewhere : (i : ℕ) → Somewhere g i → Somewhere (took g t) i
-        somewhere i (inl x) = inr (among-new (g .taken) t (whole g) i (x .0) (x .1))
-        somewhere i (inr x) = among-old (g .taken) t (whole g) i (λ y. inr y) (λ a b. absurd (omega arith)) x
+        somewhere i (inl x) = inr (among-new (g .taken) t (wholeSpan g) i (x .0) (x .1))
+        somewhere i (inr x) = among-old (g .taken) t (wholeSpan g) i (λ y. inr y) (λ a b. absurd (omega arith)) x
 
     -- ── complete: thread t's oldest no longer waits ──
 
@@ -345,12 +345,13 @@ module _ {g : Ghost} {wait : ℕ → Bool} (v : Parts g wait) where
         → Parts (completed g t) (upd wait (g .log (g .taken t .beg)) false)
     parts-complete s = record {
       order = v .order;
-      queued = λ i a b. keep 0 i (one-owner i at 0 (suc t) (v .queued i a b) it (λ e. omega arith)) (v .queued i a b);
-      held = upd-cases (HeldBy (completed g t) wait′) (g .taken) t (rest g t)
+      queued =
+          λ i a b. keep 0 i (owners-apart i at 0 (suc t) (v .queued i a b) it (λ e. omega arith)) (v .queued i a b);
+      held = upd-cases (HeldBy (completed g t) wait′) (g .taken) t (restSpan g t)
           (λ i a b. let x : (i < g .hi) × Held g wait (suc t) i = v .held t i (omega arith) b in
-          (x .0, keep (suc t) i (one-node i at (suc t) (suc t) (x .1) it (λ e. omega arith)) (x .1)))
+          (x .0, keep (suc t) i (tickets-apart i at (suc t) (suc t) (x .1) it (λ e. omega arith)) (x .1)))
           (λ u ne i a b. let x : (i < g .hi) × Held g wait (suc u) i = v .held u i a b in
-          (x .0, keep (suc u) i (one-owner i at (suc u) (suc t) (x .1) it (λ e. ne (omega arith))) (x .1)));
+          (x .0, keep (suc u) i (owners-apart i at (suc u) (suc t) (x .1) it (λ e. ne (omega arith))) (x .1)));
       cover = λ k w. cover′ k (eq? k (g .log at)) w;
     }
       where
@@ -374,8 +375,8 @@ module _ {g : Ghost} {wait : ℕ → Bool} (v : Parts g wait) where
         somewhere : (i : ℕ) → i ≢ at → Somewhere g i → Somewhere (completed g t) i
         somewhere i ne (inl x) = inl x
         somewhere i ne (inr x) =
-            among-old (g .taken) t (rest g t) i (λ y. inr y)
-            (λ a b. inr (among-new (g .taken) t (rest g t) i (omega arith) b)) x
+            among-old (g .taken) t (restSpan g t) i (λ y. inr y)
+            (λ a b. inr (among-new (g .taken) t (restSpan g t) i (omega arith) b)) x
 
         cover′ : (k : ℕ) → (k ≡ g .log at) ⊎ (k ≢ g .log at) → wait′ k ≡ true
             → (g .log (g .tk k) ≡ k) × Somewhere (completed g t) (g .tk k)

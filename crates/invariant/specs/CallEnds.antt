@@ -18,10 +18,10 @@ use Rattle.queue.specs.Tickets.{Ghost}
 use Rattle.invariant.specs.Table.{Lock, Free, leaver}
 use Rattle.invariant.specs.Invariant.{readers, writers, leavers, Hold, Unqueued, empty, written, read, by-writer}
 use Rattle.invariant.specs.Invariant.{Inv}
-use Rattle.invariant.specs.Off.{Down, Ended}
+use Rattle.invariant.specs.OffQueue.{RoleDown, Ended}
 use Rattle.invariant.specs.Words.{Plain, word-is, readers-word, granted-word}
 
-module _ {n : ℕ} {s : Lock} {g : Ghost} (i : Inv n s g) (t : ℕ) (tin : t < n) (o : Down s g t) where
+module _ {n : ℕ} {s : Lock} {g : Ghost} (i : Inv n s g) (t : ℕ) (tin : t < n) (o : RoleDown s g t) where
   -- an unqueued word becomes another
   pub ended-bare : (w : Word) (h : Holding) → queued (s .word) ≡ false → Plain w →
       ((r v l : ℕ) → r + readsOf (s .th t .holding) ≡ readers n s + readsOf h

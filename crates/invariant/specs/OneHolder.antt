@@ -12,9 +12,9 @@ use Rattle.invariant.specs.Invariant.{readers, writers, leavers, Unqueue
 use Rattle.invariant.specs.Invariant.{by-writer, by-readers, by-leaver, Inv}
 
 module _ {n : ℕ} {s : Lock} {g : Ghost} (i : Inv n s g) (some : 1 ≤ writers n s + leavers n s) where
-  pub sole-bare : queued (s .word) ≡ false
+  pub one-holder-bare : queued (s .word) ≡ false
       → (s .word .0 ≡ LOCKED) × (readers n s ≡ 0) × (writers n s ≡ 1) × (leavers n s ≡ 0)
-  sole-bare q = by (i .count .bare q)
+  one-holder-bare q = by (i .count .bare q)
     where
       by : Unqueued (s .word) (readers n s) (writers n s) (leavers n s)
           → (s .word .0 ≡ LOCKED) × (readers n s ≡ 0) × (writers n s ≡ 1) × (leavers n s ≡ 0)
@@ -22,22 +22,22 @@ module _ {n : ℕ} {s : Lock} {g : Ghost} (i : Inv n s g) (some : 1 ≤ writers 
       by (written z h) = (z, h .reads, h .writes, h .leaves)
       by (read z r h) = absurd (omega (arith, h .writes, h .leaves))
 
-  pub sole-locked : queued (s .word) ≡ true → locked (s .word) ≡ true
-  sole-locked q =
+  pub one-holder-locked : queued (s .word) ≡ true → locked (s .word) ≡ true
+  one-holder-locked q =
       not-false (locked (s .word))
       (λ e. omega (arith, i .count .unlocked q e .writes, i .count .unlocked q e .leaves))
 
-  pub sole-plain : queued (s .word) ≡ true → downgraded (s .word) ≡ false
-  sole-plain q =
+  pub one-holder-plain : queued (s .word) ≡ true → downgraded (s .word) ≡ false
+  one-holder-plain q =
       not-true (downgraded (s .word))
       (λ e. omega (
         arith,
-        i .count .handed q (sole-locked q) e .writes,
-        i .count .handed q (sole-locked q) e .leaves,
+        i .count .handed q (one-holder-locked q) e .writes,
+        i .count .handed q (one-holder-locked q) e .leaves,
       ))
 
-  pub sole : (readers n s ≡ 0) × (writers n s + leavers n s ≡ 1)
-  sole = by (queued (s .word)) refl
+  pub one-holder : (readers n s ≡ 0) × (writers n s + leavers n s ≡ 1)
+  one-holder = by (queued (s .word)) refl
     where
       of : Locked (readers n s) (writers n s) (leavers n s) → (readers n s ≡ 0) × (writers n s + leavers n s ≡ 1)
       of (by-writer h) = (h .reads, omega (arith, h .writes, h .leaves))
@@ -45,5 +45,5 @@ module _ {n : ℕ} {s : Lock} {g : Ghost} (i : Inv n s g) (some : 1 ≤ writers 
       of (by-leaver h) = (h .reads, omega (arith, h .writes, h .leaves))
 
       by : (q : Bool) → queued (s .word) ≡ q → (readers n s ≡ 0) × (writers n s + leavers n s ≡ 1)
-      by false q = (sole-bare q .1, omega (arith, sole-bare q))
-      by true q = of (i .count .held q (sole-locked q) (sole-plain q))
+      by false q = (one-holder-bare q .1, omega (arith, one-holder-bare q))
+      by true q = of (i .count .held q (one-holder-locked q) (one-holder-plain q))

@@ -1,5 +1,5 @@
--- Moves of a thread off the queue: `hop`, on without a change of what is shared; `finish`, the end of a call by a
--- change of the word's LOCKED, DOWNGRADED or readers' count, with the queue as it was.
+-- A thread off the queue moves on: `goes-off-queue`, without a change of what is shared; `ends-call`, the end of a call
+-- by a change of the word's LOCKED, DOWNGRADED or readers' count, with the queue as it was.
 -- Assumes nothing.
 use Prim.Native.Nat.{ℕ, _+_, _<_}
 use mathlib.Core.Bool.{Bool, true, false}
@@ -17,13 +17,13 @@ use Rattle.queue.specs.Tests.{never}
 use Rattle.queue.specs.Tickets.{Ghost}
 use Rattle.queue.specs.Roles.{none, filled}
 use Rattle.queue.specs.Invariant as Q
-use Rattle.invariant.specs.Table.{May, About, off, about, Lock, aboutAt, Allowed, leaver}
+use Rattle.invariant.specs.Table.{May, About, offQueue, about, Lock, aboutAt, Allowed, leaver}
 use Rattle.invariant.specs.Invariant.{readers, writers, leavers, Count, Real, queueOf, Inv}
-use Rattle.invariant.specs.Frames.{moved, summed, land, stay, shown-still, same-newest}
+use Rattle.invariant.specs.Frames.{moved, summed, land, stay, viewed-still, same-newest}
 use Rattle.invariant.specs.Kept.{placed}
 
 -- what is told of a place off the queue
-pub record Off (a : About) : Type 0 where
+pub record OffQueue (a : About) : Type 0 where
   pub role : a .role ≡ none
   pub owner : a .owner ≡ false
   pub reader : a .reader ≡ false
@@ -31,36 +31,36 @@ pub record Off (a : About) : Type 0 where
   pub asleep : a .asleep ≡ false
   pub ok : a .ok ≡ true
 
-pub is-off : (may : May) (leaves needsQueue contends : Bool) → Off (off may leaves needsQueue contends)
-is-off may leaves needsQueue
+pub off-queue : (may : May) (leaves needsQueue contends : Bool) → OffQueue (offQueue may leaves needsQueue contends)
+off-queue may leaves needsQueue
     contends = record { role = refl; owner = refl; reader = refl; registered = refl; asleep = refl; ok = refl }
 
 -- thread t owns nothing of the queue, and its role may be put down
-pub record Down (s : Lock) (g : Ghost) (t : ℕ) : Type 0 where
+pub record RoleDown (s : Lock) (g : Ghost) (t : ℕ) : Type 0 where
   pub owner : aboutAt s t .owner ≡ false
   pub registered : aboutAt s t .registered ≡ false
   pub role : Q.Inv g (Q.turned (queueOf s) t none)
 
-pub off-down : {n : ℕ} {s : Lock} {g : Ghost} (i : Inv n s g) (t : ℕ) → Off (aboutAt s t) → Down s g t
-off-down {s} {g} i t
+pub role-down : {n : ℕ} {s : Lock} {g : Ghost} (i : Inv n s g) (t : ℕ) → OffQueue (aboutAt s t) → RoleDown s g t
+role-down {s} {g} i t
     o = record {
       owner = o .owner;
       registered = o .registered;
       role = Q.turn g (queueOf s) (i .queue) t none (rw (o .role) at (i .queue .know t)) (never refl);
     }
 
-module _ {n : ℕ} {s : Lock} {g : Ghost} (i : Inv n s g) (t : ℕ) (tin : t < n) (o : Down s g t) where
+module _ {n : ℕ} {s : Lock} {g : Ghost} (i : Inv n s g) (t : ℕ) (tin : t < n) (o : RoleDown s g t) where
   -- the queue's view where the thread goes on off the queue
-  pub queue-off : (w : Word) (x : Thread) → Off (about (x .place)) → Q.Inv g (queueOf (moved s t w x (s .nd)))
-  queue-off w x o′ = shown-still s t x w (rw (o′ .registered, o .registered)) (rw (o′ .role) (o .role))
+  pub queue-still : (w : Word) (x : Thread) → OffQueue (about (x .place)) → Q.Inv g (queueOf (moved s t w x (s .nd)))
+  queue-still w x o′ = viewed-still s t x w (rw (o′ .registered, o .registered)) (rw (o′ .role) (o .role))
 
   -- on to another place, with the word as it is
-  pub hop : (p : Place) → Off (about p) → Allowed (about p .may) (s .th t .holding)
+  pub goes-off-queue : (p : Place) → OffQueue (about p) → Allowed (about p .may) (s .th t .holding)
       → (about p .needsQueue ≡ true → queued (s .word) ≡ true)
       → leaver (placed (s .th t) p) ≡ leaver (s .th t) → (aboutAt s t .contends ≡ true → about p .contends ≡ true) →
       Inv n (moved s t (s .word) (placed (s .th t) p) (s .nd)) g
-  hop p o′ may needs leaving contending = stay n s g t (placed (s .th t) p) (s .nd) i (record {
-    queue = queue-off (s .word) (placed (s .th t) p) o′;
+  goes-off-queue p o′ may needs leaving contending = stay n s g t (placed (s .th t) p) (s .nd) i (record {
+    queue = queue-still (s .word) (placed (s .th t) p) o′;
     inside = tin;
     holding = refl;
     completed = λ u ne. refl;
@@ -96,9 +96,9 @@ module _ {n : ℕ} {s : Lock} {g : Ghost} (i : Inv n s g) (t : ℕ) (tin : t < n
   abbrev pub idle : Holding → Thread
   idle h = record { place = Idle; token = s .th t .token; holding = h }
 
-  pub finish : (w : Word) (h : Holding) → Ended w h → Inv n (moved s t w (idle h) (s .nd)) g
-  finish w h c = land i g t w (idle h) (s .nd) (record {
-    queue = queue-off w (idle h) (is-off _ _ _ _);
+  pub ends-call : (w : Word) (h : Holding) → Ended w h → Inv n (moved s t w (idle h) (s .nd)) g
+  ends-call w h c = land i g t w (idle h) (s .nd) (record {
+    queue = queue-still w (idle h) (off-queue _ _ _ _);
     newest = λ e.
         let q : queued (s .word) ≡ true = sym (c .same-queue) ∙ e in
         same-newest w (c .same-node q) (i .newest q);

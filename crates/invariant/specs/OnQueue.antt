@@ -1,5 +1,6 @@
--- Moves of a thread on the queue, or on what it has taken off: `stroll`, on without a change of the word, of tickets
--- or of what it holds.
+-- A thread on the queue, or on what it has taken off, moves on: `goes-on-queue`, without a change of the word, of
+-- tickets
+-- or of what it holds. Also where a walk begins.
 -- Assumes nothing.
 use Prim.Native.Nat.{ℕ, suc, _<_}
 use mathlib.Core.Bool.{Bool, true, false}
@@ -17,13 +18,13 @@ use Rattle.queue.specs.Tests.{never}
 use Rattle.queue.specs.Updates.{upd, upd-cases, map-upd, map-keep, upd-same}
 use Rattle.queue.specs.Tickets.{Ghost}
 use Rattle.queue.specs.Queue.{Links, setPv, setTl}
-use Rattle.queue.specs.Roles.{Role, filled, Kind, public, none, walk}
+use Rattle.queue.specs.Roles.{Role, filled, WalkKind, public, none, walk}
 use Rattle.queue.specs.Invariant as Q
 use Rattle.queue.specs.Walking
 use Rattle.invariant.specs.Table.{handsOff, About, walking, owning, waking, about, Lock, aboutAt, linksOf, waitOf}
 use Rattle.invariant.specs.Table.{Allowed, lookKind, roleOf}
 use Rattle.invariant.specs.Invariant.{Real, queueOf, Inv, Newest}
-use Rattle.invariant.specs.Frames.{moved, waits-as, stay, shown}
+use Rattle.invariant.specs.Frames.{moved, waits-as, stay, viewed}
 use Rattle.invariant.specs.Kept.{placed}
 use Rattle.word.specs.Flags.{toNode}
 
@@ -133,11 +134,11 @@ module _ {n : ℕ} {s : Lock} {g : Ghost} (i : Inv n s g) (t : ℕ) (tin : t < n
   -- the queue's step is the lock's
   pub seen-as : (g′ : Ghost) (w : Word) → Q.Inv g′ (Q.relinked (queueOf s) t l (about p .role))
       → Q.Inv g′ (queueOf (moved s t w (placed (s .th t) p) nd))
-  seen-as g′ w q = shown s t (placed (s .th t) p) nd w l (waitOf (s .th) (s .nd)) (k .links) waits-alike q
+  seen-as g′ w q = viewed s t (placed (s .th t) p) nd w l (waitOf (s .th) (s .nd)) (k .links) waits-alike q
 
-  pub stroll : (Real n s → about p .owner ≡ true → handsOff (about p .seen) ≡ true)
+  pub goes-on-queue : (Real n s → about p .owner ≡ true → handsOff (about p .seen) ≡ true)
       → Q.Inv g (Q.relinked (queueOf s) t l (about p .role)) → Inv n (moved s t (s .word) (placed (s .th t) p) nd) g
-  stroll calm q = stay n s g t (placed (s .th t) p) nd i (record {
+  goes-on-queue calm q = stay n s g t (placed (s .th t) p) nd i (record {
     queue = seen-as g (s .word) q;
     inside = tin;
     holding = refl;
@@ -162,7 +163,7 @@ pub public-look : (c : Bool) → public (lookKind c) ≡ true
 public-look true = refl
 public-look false = refl
 
-pub begun-at : (s : Lock) (t : ℕ) (wait : ℕ → Bool) {g : Ghost} {w : Word} (k : Kind) → public k ≡ true → Newest g w
+pub begun-at : (s : Lock) (t : ℕ) (wait : ℕ → Bool) {g : Ghost} {w : Word} (k : WalkKind) → public k ≡ true → Newest g w
     → Q.Inv g (Q.moved (queueOf s) t (linksOf (s .nd)) wait none)
     → Q.Inv g (Q.moved (queueOf s) t (linksOf (s .nd)) wait (walk k (toNode w .0) (toNode w .0)))
 begun-at s t wait {w} k p v down =
