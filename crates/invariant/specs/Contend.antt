@@ -20,7 +20,7 @@ use Rattle.word.specs.declared.rules.WriteLocked.{WriteLocked}
 use Rattle.word.specs.declared.rules.WriteLocked.the-variants.{To as WriteTo, Refused as WriteRefused}
 use Rattle.state.specs.Holding.{grantedRead, grantedWrite}
 use Rattle.state.specs.Node.{filledOf}
-use Rattle.state.specs.View.{at, agreesOf, stays}
+use Rattle.state.specs.View.{at, stays}
 use Rattle.state.specs.declared.machine.Thread.{Thread}
 use Rattle.state.specs.declared.node.Node.{Node}
 use Rattle.state.specs.declared.place.Place.{Place}
@@ -39,12 +39,13 @@ use Rattle.queue.specs.Registering
 use Rattle.invariant.specs.Table.{offQueue, free, about, aboutAt, linksOf, waitOf, roleOf, Free, leaver}
 use Rattle.invariant.specs.Invariant.{readers, writers, leavers, Unqueued, empty, written, read, Real, Newest}
 use Rattle.invariant.specs.Invariant.{queueOf, Inv}
-use Rattle.invariant.specs.Frames.{moved, waits-as, stay, viewed}
+use Rattle.invariant.specs.Frames.{waits-as, stay, viewed}
 use Rattle.invariant.specs.Moves.{isAside, Went, movesNoTicket, stood, contend-elsewhere}
-use Rattle.invariant.specs.Kept.{lookAt, Kept, kept-still, placed, Goes, Setting, mine, kept-stood}
+use Rattle.invariant.specs.Kept.{lookAt, Kept, kept-still, placed, Goes, Setting, mine, kept-stood, movedTo}
+use Rattle.invariant.specs.Kept.{became, kept-compare}
 use Rattle.invariant.specs.OffQueue.{off-queue, RoleDown, role-down, goes-off-queue, ends-call}
 use Rattle.invariant.specs.CallEnds.{ended-read, ended-written}
-use Rattle.invariant.specs.Words.{agreed, word-is, readers-word}
+use Rattle.invariant.specs.Words.{word-is, readers-word}
 
 -- the lock rule refuses an unqueued word of the lock only where LOCKED is set
 refused-locked : (writer : Bool) (w : Word) (r v l : ℕ) → Unqueued w r v l → permittedOf writer w ≡ Refused
@@ -75,8 +76,7 @@ fill-links nd me writer w = (λ j. record {
   pv = map-upd (λ y. y .prev .0) nd (suc (me .0)) (filledOf me writer w) j;
   tl = map-upd (λ y. y .tail .0) nd (suc (me .0)) (filledOf me writer w) j;
 }) ∙ ap (λ z. record {
-  nx =
-      upd (λ k. nd k .next .0) (suc (me .0)) (withoutFlags w .0);
+  nx = upd (λ k. nd k .next .0) (suc (me .0)) (withoutFlags w .0);
   pv = upd (λ k. nd k .prev .0) (suc (me .0)) 0;
   tl = upd (λ k. nd k .tail .0) (suc (me .0)) z;
 }) (own (queued w))
@@ -153,8 +153,7 @@ module _ (st : Setting) (c : Contends st) where
 
   -- the lock rule grants
   pub kept-grant : (writer : Bool) (to : Word) → permittedOf writer (s .word) ≡ To to
-      → Inv n (moved s (me .0) to
-      (record { place = Idle; token = mine st .token; holding = grantedOf writer (mine st .holding) }) (s .nd)) g
+      → Inv n (movedTo st to (became (mine st) Idle (grantedOf writer (mine st .holding)))) g
   kept-grant true to e = by (writeLockOf (s .word)) refl e
     where
       unlocked : (x : Word) → writeLockOf (s .word) ≡ WriteTo x → (locked (s .word) ≡ false) × (setLocked (s .word) ≡ x)
@@ -163,13 +162,11 @@ module _ (st : Setting) (c : Contends st) where
           (λ z. let bad : _≡_ {A = ℕ} 0 1 = cc in omega arith) f in (y .0, cc (y .1))
 
       by : (r : WriteLocked) → writeLockOf (s .word) ≡ r → byWrite r ≡ To to
-          → Inv n (moved s (me .0) to
-          (record { place = Idle; token = mine st .token; holding = grantedWrite (mine st .holding) }) (s .nd)) g
+          → Inv n (movedTo st to (became (mine st) Idle (grantedWrite (mine st .holding)))) g
       by (WriteTo x) f z =
           let is : setLocked (s .word) ≡ to = unlocked x f .1 ∙ cc z in
           subst (λ w. Inv n
-          (moved s (me .0) w
-          (record { place = Idle; token = mine st .token; holding = grantedWrite (mine st .holding) }) (s .nd)) g)
+          (movedTo st w (became (mine st) Idle (grantedWrite (mine st .holding)))) g)
           is
           (ends-call i (me .0) tin (c .down) (setLocked (s .word)) _
           (ended-written i (me .0) tin (c .down) (c .free) (c .leaves) (unlocked x f .0)))
@@ -177,8 +174,7 @@ module _ (st : Setting) (c : Contends st) where
   kept-grant false to e = by (readLockOf (s .word)) refl e
     where
       by : (r : ReadLocked) → readLockOf (s .word) ≡ r → byRead r ≡ To to
-          → Inv n (moved s (me .0) to
-          (record { place = Idle; token = mine st .token; holding = grantedRead (mine st .holding) }) (s .nd)) g
+          → Inv n (movedTo st to (became (mine st) Idle (grantedRead (mine st .holding)))) g
       by (ReadTo x) f z =
           let is : x ≡ to = cc z in
           ends-call i (me .0) tin (c .down) to _
@@ -191,8 +187,7 @@ module _ (st : Setting) (c : Contends st) where
     on-to q told away near =
         kept-still st (suc (me .0)) _ _ g (c .unmoved q away near)
         (goes-off-queue i (me .0) tin (c .down) q (rw told (off-queue _ _ _ _)) (rw told (c .free))
-        (rw told (never refl))
-        (rw told (sym (c .leaves))) (λ _. rw told))
+        (rw told (never refl)) (rw told (sym (c .leaves))) (λ _. rw told))
 
     pub kept-contend : Kept st (suc (me .0)) (contendJudged (lookAt st (suc (me .0))) writer reloads (s .word))
     kept-contend = by (permittedOf writer (s .word)) refl
@@ -234,10 +229,9 @@ module _ (st : Setting) where
 
   pub kept-contend-cas : (writer : Bool) (reloads : ℕ) (seen : Word) → mine st .place ≡ ContendCas writer reloads seen
       → Goes st (suc (me .0)) (λ v. contendCasOf v writer reloads seen)
-  kept-contend-cas writer reloads seen here = pick-both (Kept st (suc (me .0)))
-      (agreesOf (lookAt st (suc (me .0))) seen) _ _
-      (λ e. by (permittedOf writer seen) (ap (permittedOf writer) (agreed (lookAt st (suc (me .0))) seen e)))
-      (λ _. again)
+  kept-contend-cas writer reloads seen here = kept-compare st (suc (me .0)) seen _ _
+      (λ same. by (permittedOf writer seen) (ap (permittedOf writer) same))
+      again
     where
       c : Contends st
       c = contends-off (ContendCas writer reloads seen) here refl refl

@@ -16,7 +16,7 @@ use Rattle.word.specs.Flags.{downgraded, setDowngraded, toNode}
 use Rattle.word.specs.Laws.{set-has, set-keeps, set-node}
 use Rattle.word.specs.declared.flags.Word.{Word}
 use Rattle.state.specs.Holding.{writesOf, downgradedTo}
-use Rattle.state.specs.View.{end, walkFrom, agreesOf, writes as writesTo}
+use Rattle.state.specs.View.{end, walkFrom, writes as writesTo}
 use Rattle.state.specs.declared.answer.Answer.the-variants.{Done}
 use Rattle.state.specs.declared.machine.Thread.{Thread}
 use Rattle.state.specs.declared.place.Place.the-variants.{WalkTail, DowngradeCas, DowngradeSlowCas}
@@ -32,15 +32,15 @@ use Rattle.invariant.specs.Table.{offQueue, writes, about, aboutAt, role
 use Rattle.invariant.specs.Invariant.{readers, writers, leavers, Hold, read, Newest, queueOf, Inv}
 use Rattle.invariant.specs.TableFacts.{row-facts}
 use Rattle.invariant.specs.Exclusion.{inside, unowned, reading, needs-some}
-use Rattle.invariant.specs.Frames.{moved}
 use Rattle.invariant.specs.Moves.{downgrade-takes, downgrade-ends, downgrade-fails}
-use Rattle.invariant.specs.Kept.{lookAt, Kept, kept-still, Goes, Setting, mine, goneTo, kept-stood}
+use Rattle.invariant.specs.Kept.{lookAt, Kept, kept-still, Goes, Setting, mine, goneTo, kept-stood, movedTo}
+use Rattle.invariant.specs.Kept.{kept-compare}
 use Rattle.invariant.specs.OffQueue.{off-queue, RoleDown, role-down, goes-off-queue, Ended, ends-call}
 use Rattle.invariant.specs.CallEnds.{ended-bare}
 use Rattle.invariant.specs.Release.{writer-counts}
 use Rattle.invariant.specs.OneHolder.{one-holder, one-holder-bare, one-holder-locked}
 use Rattle.invariant.specs.Take.{takes-whole}
-use Rattle.invariant.specs.Words.{agreed, word-is}
+use Rattle.invariant.specs.Words.{word-is}
 
 -- a thread that downgrades, q: whether it needs the queue to stay
 module _ (st : Setting) (needsQueue : Bool) (is : about (mine st .place) ≡ offQueue writes false needsQueue false) where
@@ -154,13 +154,13 @@ module _ (st : Setting) (needsQueue : Bool) (is : about (mine st .place) ≡ off
       by (no k) = omega (arith, sum-two n writing (me .0) u (omega arith) within, mine, holds, only)
 
   takes-all : queued (s .word) ≡ true → queueLocked (s .word) ≡ false
-      → Inv n (moved s (me .0) (word (SINGLE + LOCKED)) next (s .nd)) (took g (me .0))
+      → Inv n (movedTo st (word (SINGLE + LOCKED)) next) (took g (me .0))
   takes-all q l =
       let v : Newest g (s .word) = i .newest q in
       takes-whole i (me .0) tin (word (SINGLE + LOCKED)) next (record { unqueued = refl; unowned = refl; plain = refl })
       (record {
         queue =
-            Taking.take-alone (i .queue) (me .0) (toNode (s .word) .0) (v .ticket) (ap (λ a. a .role) is) (alone l)
+            Taking.take-alone (i .queue) (me .0) (v .ticket) (ap (λ a. a .role) is) (alone l)
             (v .last) (v .some) (v .node);
         registered = rw is;
         owner = refl;
@@ -214,11 +214,11 @@ module _ (st : Setting) (k : ℕ) where
 
   pub kept-downgrade-slow-cas : (seen : Word) → mine st .place ≡ DowngradeSlowCas seen
       → Goes st k (λ v. downgradeSlowCasOf v seen)
-  kept-downgrade-slow-cas seen here = pick-both (Kept st k) (agreesOf (lookAt st k) seen) _ _
-      (λ e. subst (λ x.
+  kept-downgrade-slow-cas seen here = kept-compare st k seen _ _
+      (λ same. subst (λ x.
       Kept st k (writesTo (lookAt st k) (downgradedWord x) (downgradedTo (mine st .holding)) (afterDowngrade x)))
-      (agreed (lookAt st k) seen e) (succeeds st true (ap about here) seen here has-queue k))
-      (λ _. kept-still st k _ _ g (downgrade-fails me g here (s .word)) (slowly true (ap about here) has-queue))
+      same (succeeds st true (ap about here) seen here has-queue k))
+      (kept-still st k _ _ g (downgrade-fails me g here (s .word)) (slowly true (ap about here) has-queue))
     where
       has-queue : queued (s .word) ≡ true
       has-queue = i .needs (me .0) (ap (λ p. about p .needsQueue) here)

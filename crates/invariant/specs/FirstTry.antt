@@ -9,7 +9,7 @@ use Rattle.word.specs.Rules.{readLockOf}
 use Rattle.word.specs.declared.flags.Word.{Word}
 use Rattle.word.specs.declared.rules.ReadLocked.{ReadLocked}
 use Rattle.word.specs.declared.rules.ReadLocked.the-variants.{To, Refused}
-use Rattle.state.specs.View.{agreesOf, granted, stays, writes}
+use Rattle.state.specs.View.{granted, stays, writes}
 use Rattle.state.specs.declared.holding.Holding.{Holding}
 use Rattle.state.specs.declared.place.Place.{Place}
 use Rattle.state.specs.declared.place.Place.the-variants.{Idle, TryReadLoad, TryReadCas, TryWriteOr, ContendLoad}
@@ -18,12 +18,11 @@ use Rattle.acquire.specs.TryWrite.{tryWriteRefused, tryWriteOrOf}
 use Rattle.queue.specs.Tests.{never}
 use Rattle.invariant.specs.Table.{free, offQueue, about, aboutAt, Free, Allowed, leaver}
 use Rattle.invariant.specs.Invariant.{Inv}
-use Rattle.invariant.specs.Frames.{moved}
 use Rattle.invariant.specs.Moves.{movesNoTicket}
-use Rattle.invariant.specs.Kept.{lookAt, Kept, Goes, Setting, mine, goneTo, kept-stood}
+use Rattle.invariant.specs.Kept.{lookAt, Kept, Goes, Setting, mine, goneTo, kept-stood, movedTo, became}
+use Rattle.invariant.specs.Kept.{kept-compare}
 use Rattle.invariant.specs.OffQueue.{OffQueue, off-queue, RoleDown, role-down, goes-off-queue, ends-call}
 use Rattle.invariant.specs.CallEnds.{ended-read, ended-written}
-use Rattle.invariant.specs.Words.{agreed}
 
 module _ (st : Setting) (k : ℕ) where
   open Setting st using (n, s, g, i, me, tin)
@@ -62,15 +61,14 @@ module _ (st : Setting) (k : ℕ) where
   kept-try-read-load blocking here = judged (TryReadLoad blocking) here refl refl blocking (readLockOf (s .word))
 
   at-end : (p : Place) → mine st .place ≡ p → movesNoTicket p ≡ true → (blocking : Bool) (w : Word) (h : Holding)
-      → Inv n (moved s (me .0) w (record { place = Idle; token = mine st .token; holding = h }) (s .nd)) g
+      → Inv n (movedTo st w (became (mine st) Idle h)) g
       → Kept st k (writes (lookAt st k) w h (granted blocking))
   at-end p here unmoved true w h j = kept-stood st k here unmoved _ _ refl j
   at-end p here unmoved false w h j = kept-stood st k here unmoved _ _ refl j
 
   pub kept-try-read-cas : (blocking : Bool) (seen : Word) → mine st .place ≡ TryReadCas blocking seen
       → Goes st k (λ v. tryReadCasOf v blocking seen)
-  kept-try-read-cas blocking seen here = pick-both (Kept st k) (agreesOf (lookAt st k) seen) _ _
-      (λ e. by (agreed (lookAt st k) seen e) (readLockOf seen) refl) (λ _. again)
+  kept-try-read-cas blocking seen here = kept-compare st k seen _ _ (λ same. by same (readLockOf seen) refl) again
     where
       again : Kept st k (tryReadJudged (lookAt st k) blocking (s .word))
       again = judged (TryReadCas blocking seen) here refl refl blocking (readLockOf (s .word))

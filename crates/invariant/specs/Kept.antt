@@ -30,6 +30,10 @@ use Rattle.invariant.specs.Invariant.{Inv}
 use Rattle.invariant.specs.Frames.{moved}
 use Rattle.invariant.specs.Moves.{Went, isAside, movesNoTicket, stood}
 use Rattle.state.specs.declared.node.Node.{Node}
+use Rattle.state.specs.declared.holding.Holding.{Holding}
+use Rattle.invariant.specs.Words.{agreed}
+use Rattle.state.specs.View.{agreesOf}
+use Rattle.word.specs.Cases.{pick-both}
 
 -- a step of thread me, one of n, on a lock s that has the invariant with the tickets g; the mark that it finds, and
 -- whether its compare is made to fail
@@ -84,6 +88,14 @@ Goes st k rule = Kept st k (rule (lookAt st k))
 abbrev pub placed : Thread → Place → Thread
 placed x p = record { place = p; token = x .token; holding = x .holding }
 
+-- at another place, holding h
+abbrev pub became : Thread → Place → Holding → Thread
+became x p h = record { place = p; token = x .token; holding = h }
+
+-- the lock with the word w where the thread has become x
+abbrev pub movedTo : Setting → Word → Thread → Lock
+movedTo st w x = moved (st .s) (st .me .0) w x (st .s .nd)
+
 -- the lock where the thread has gone on to place p, the nodes being nd
 abbrev pub goneTo : Setting → Place → (ℕ → Node) → Lock
 goneTo st p nd = moved (st .s) (st .me .0) (st .s .word) (placed (mine st) p) nd
@@ -93,13 +105,19 @@ module _ (st : Setting) (k : ℕ) where
 
   -- the word and the thread's record may change, the node is as it was
   pub kept-still : (w : Word) (x : Thread) (g′ : Ghost) → Went me (mine st .place) g (x .place) g′
-      → Inv n (moved s (me .0) w x (s .nd)) g′
+      → Inv n (movedTo st w x) g′
       → (h : Ghost) × Inv n (moved s (me .0) w x (upd (s .nd) k (s .nd k))) h × Went me (mine st .place) g (x .place) h
   kept-still w x g′ went i = (g′, subst (λ nd. Inv n (moved s (me .0) w x nd) g′) (sym (upd-self (s .nd) k)) i, went)
 
   -- so at a place that moves no ticket
   pub kept-stood : {p : Place} → mine st .place ≡ p → movesNoTicket p ≡ true → (w : Word) (x : Thread)
       → isAside (x .place) ≡ false
-      → Inv n (moved s (me .0) w x (s .nd)) g
+      → Inv n (movedTo st w x) g
       → (h : Ghost) × Inv n (moved s (me .0) w x (upd (s .nd) k (s .nd k))) h × Went me (mine st .place) g (x .place) h
   kept-stood here stands w x near = kept-still w x g (stood me g here stands (x .place) near)
+
+  -- a compare that agrees has seen the word as it is
+  pub kept-compare : (seen : Word) (a b : Stepped) → (s .word ≡ seen → Kept st k a) → Kept st k b
+      → Kept st k (pick (agreesOf (lookAt st k) seen) a b)
+  kept-compare seen a b agrees fails =
+      pick-both (Kept st k) (agreesOf (lookAt st k) seen) a b (λ e. agrees (agreed (lookAt st k) seen e)) (λ _. fails)

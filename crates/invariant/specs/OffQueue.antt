@@ -20,7 +20,7 @@ use Rattle.queue.specs.Invariant as Q
 use Rattle.invariant.specs.Table.{May, About, offQueue, about, Lock, aboutAt, Allowed, leaver}
 use Rattle.invariant.specs.Invariant.{readers, writers, leavers, Count, Real, queueOf, Inv}
 use Rattle.invariant.specs.Frames.{moved, summed, land, stay, viewed-still, same-newest}
-use Rattle.invariant.specs.Kept.{placed}
+use Rattle.invariant.specs.Kept.{placed, became}
 
 -- what is told of a place off the queue
 pub record OffQueue (a : About) : Type 0 where
@@ -93,12 +93,9 @@ module _ {n : ℕ} {s : Lock} {g : Ghost} (i : Inv n s g) (t : ℕ) (tin : t < n
         → r + readsOf (s .th t .holding) ≡ readers n s + readsOf h → r ≡ 0
     pub seen-to : queued w ≡ true → locked w ≡ false → queueLocked w ≡ false → ⊥
 
-  abbrev pub idle : Holding → Thread
-  idle h = record { place = Idle; token = s .th t .token; holding = h }
-
-  pub ends-call : (w : Word) (h : Holding) → Ended w h → Inv n (moved s t w (idle h) (s .nd)) g
-  ends-call w h c = land i g t w (idle h) (s .nd) (record {
-    queue = queue-still w (idle h) (off-queue _ _ _ _);
+  pub ends-call : (w : Word) (h : Holding) → Ended w h → Inv n (moved s t w (became (s .th t) Idle h) (s .nd)) g
+  ends-call w h c = land i g t w (became (s .th t) Idle h) (s .nd) (record {
+    queue = queue-still w (became (s .th t) Idle h) (off-queue _ _ _ _);
     newest = λ e.
         let q : queued (s .word) ≡ true = sym (c .same-queue) ∙ e in
         same-newest w (c .same-node q) (i .newest q);
@@ -124,11 +121,11 @@ module _ {n : ℕ} {s : Lock} {g : Ghost} (i : Inv n s g) (t : ℕ) (tin : t < n
     seen-to = λ a b d. absurd (c .seen-to a b d);
   })
     where
-      unreal : Real n (moved s t w (idle h) (s .nd)) → ⊥
+      unreal : Real n (moved s t w (became (s .th t) Idle h) (s .nd)) → ⊥
       unreal r =
           omega (
             arith,
             r .some,
-            c .unreal (r .queue) (r .plain) (readers n (moved s t w (idle h) (s .nd)))
-                (summed s t (idle h) (s .nd) n tin (λ y. readsOf (y .holding))),
+            c .unreal (r .queue) (r .plain) (readers n (moved s t w (became (s .th t) Idle h) (s .nd)))
+                (summed s t (became (s .th t) Idle h) (s .nd) n tin (λ y. readsOf (y .holding))),
           )

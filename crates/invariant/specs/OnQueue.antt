@@ -2,7 +2,7 @@
 -- tickets
 -- or of what it holds. Also where a walk begins.
 -- Assumes nothing.
-use Prim.Native.Nat.{ℕ, suc, _<_}
+use Prim.Native.Nat.{ℕ, suc}
 use mathlib.Core.Bool.{Bool, true, false}
 use mathlib.Core.Logic.{inl}
 use mathlib.Core.Path.{_≡_, refl, sym, _∙_}
@@ -21,11 +21,11 @@ use Rattle.queue.specs.Queue.{Links, setPv, setTl}
 use Rattle.queue.specs.Roles.{Role, filled, WalkKind, public, none, walk}
 use Rattle.queue.specs.Invariant as Q
 use Rattle.queue.specs.Walking
-use Rattle.invariant.specs.Table.{handsOff, About, walking, owning, waking, about, Lock, aboutAt, linksOf, waitOf}
-use Rattle.invariant.specs.Table.{Allowed, lookKind, roleOf}
+use Rattle.invariant.specs.Table.{handsOff, About, walking, owning, waking, about, Lock, linksOf, waitOf, Allowed}
+use Rattle.invariant.specs.Table.{lookKind, roleOf}
 use Rattle.invariant.specs.Invariant.{Real, queueOf, Inv, Newest}
 use Rattle.invariant.specs.Frames.{moved, waits-as, stay, viewed}
-use Rattle.invariant.specs.Kept.{placed}
+use Rattle.invariant.specs.Kept.{placed, Setting, mine, goneTo}
 use Rattle.word.specs.Flags.{toNode}
 
 -- ── places alike but for what is known of the queue ──
@@ -124,21 +124,24 @@ module _ (nd : ℕ → Node) (k : ℕ) (z : NodeNumber) where
 
 -- ── on ──
 
-module _ {n : ℕ} {s : Lock} {g : Ghost} (i : Inv n s g) (t : ℕ) (tin : t < n) (p : Place)
-    (a : Alike (aboutAt s t) (about p)) (nd : ℕ → Node) (l : Links) (k : Linked (s .nd) nd l) where
-  pub waits-alike : waitOf (upd (s .th) t (placed (s .th t) p)) nd ≡ waitOf (s .th) (s .nd)
+module _ (st : Setting) (p : Place) (a : Alike (about (mine st .place)) (about p)) {nd : ℕ → Node} {l : Links}
+    (k : Linked (st .s .nd) nd l) where
+  open Setting st using (n, s, g, i, me, tin)
+
+  pub waits-alike : waitOf (upd (s .th) (me .0) (placed (mine st) p)) nd ≡ waitOf (s .th) (s .nd)
   waits-alike =
-      waits-as s t (placed (s .th t) p) nd (waitOf (s .th) (s .nd)) refl (rw (a .registered, k .completed (suc t)))
+      waits-as s (me .0) (placed (mine st) p) nd (waitOf (s .th) (s .nd)) refl
+      (rw (a .registered, k .completed (suc (me .0))))
       (λ u ne. rw (k .completed (suc u)))
 
   -- the queue's step is the lock's
-  pub seen-as : (g′ : Ghost) (w : Word) → Q.Inv g′ (Q.relinked (queueOf s) t l (about p .role))
-      → Q.Inv g′ (queueOf (moved s t w (placed (s .th t) p) nd))
-  seen-as g′ w q = viewed s t (placed (s .th t) p) nd w l (waitOf (s .th) (s .nd)) (k .links) waits-alike q
+  pub seen-as : (g′ : Ghost) (w : Word) → Q.Inv g′ (Q.relinked (queueOf s) (me .0) l (about p .role))
+      → Q.Inv g′ (queueOf (moved s (me .0) w (placed (mine st) p) nd))
+  seen-as g′ w q = viewed s (me .0) (placed (mine st) p) nd w l (waitOf (s .th) (s .nd)) (k .links) waits-alike q
 
   pub goes-on-queue : (Real n s → about p .owner ≡ true → handsOff (about p .seen) ≡ true)
-      → Q.Inv g (Q.relinked (queueOf s) t l (about p .role)) → Inv n (moved s t (s .word) (placed (s .th t) p) nd) g
-  goes-on-queue calm q = stay n s g t (placed (s .th t) p) nd i (record {
+      → Q.Inv g (Q.relinked (queueOf s) (me .0) l (about p .role)) → Inv n (goneTo st p nd) g
+  goes-on-queue calm q = stay n s g (me .0) (placed (mine st) p) nd i (record {
     queue = seen-as g (s .word) q;
     inside = tin;
     holding = refl;
@@ -146,15 +149,15 @@ module _ {n : ℕ} {s : Lock} {g : Ghost} (i : Inv n s g) (t : ℕ) (tin : t < n
     next = λ r. k .next (g .log (g .lo));
     owner = a .owner;
     leaving = rw (a .leaves);
-    may = a .may (s .th t .holding) (i .holding t);
+    may = a .may (mine st .holding) (i .holding (me .0));
     needs = never (a .needsQueue);
-    plain = λ e. i .plain t (sym (a .reader) ∙ e);
+    plain = λ e. i .plain (me .0) (sym (a .reader) ∙ e);
     calm = calm;
     fits = a .ok;
     clear = never (a .unfilled);
     token = never (a .asleep);
     contending = λ e. a .contends ∙ e;
-    called = λ e d. inl (a .registered ∙ e, k .completed (suc t) ∙ d);
+    called = λ e d. inl (a .registered ∙ e, k .completed (suc (me .0)) ∙ d);
   })
 
 -- ── a walk begins at the newest ticket's node ──

@@ -6,13 +6,12 @@ use mathlib.Core.Bool.{Bool, true, false, not}
 use mathlib.Core.Path.{_≡_, refl, sym, ap, _∙_, subst}
 use native.Mathlib.Omega.{arith}
 use Rattle.word.specs.Base.{pick}
-use Rattle.word.specs.Cases.{pick-both}
 use Rattle.word.specs.Flags.{LOCKED, QUEUED, QUEUE-LOCKED, DOWNGRADED, locked, queued, downgraded, clearQueueLocked}
 use Rattle.word.specs.Flags.{toNode}
 use Rattle.word.specs.Laws.{clear-has, clear-keeps, clear-node}
 use Rattle.word.specs.declared.flags.Word.{Word}
 use Rattle.state.specs.Holding.{readsOf, writesOf}
-use Rattle.state.specs.View.{at, agreesOf, afterQueue, writes}
+use Rattle.state.specs.View.{at, afterQueue, writes}
 use Rattle.state.specs.declared.place.Place.{Place}
 use Rattle.state.specs.declared.place.Place.the-variants.{Idle, CompletedLoad, WalkTail, QueueCas}
 use Rattle.state.specs.declared.place.Walk.the-variants.{Queue}
@@ -22,14 +21,14 @@ use Rattle.unlock.specs.UnlockQueue.{queueCasOf}
 use Rattle.queue.specs.Tests.{never, not-false}
 use Rattle.queue.specs.Roles.{Role, none, walk}
 use Rattle.queue.specs.Invariant as Q
-use Rattle.invariant.specs.Table.{handsOff, lookKind, waiter, owning, about, aboutAt, linksOf, leaver}
+use Rattle.invariant.specs.Table.{handsOff, lookKind, waiter, owning, about, aboutAt, leaver}
 use Rattle.invariant.specs.Invariant.{readers, writers, leavers, Count, Real, wakes, Newest, queueOf, Inv}
 use Rattle.invariant.specs.Exclusion.{owned, real-hands-off}
-use Rattle.invariant.specs.Frames.{moved, summed, land, viewed-still, same-newest}
+use Rattle.invariant.specs.Frames.{summed, land, viewed-still, same-newest}
 use Rattle.invariant.specs.Moves.{isAside}
-use Rattle.invariant.specs.Kept.{lookAt, Kept, placed, Goes, Setting, mine, goneTo, kept-stood}
+use Rattle.invariant.specs.Kept.{lookAt, Kept, placed, Goes, Setting, mine, goneTo, kept-stood, movedTo}
+use Rattle.invariant.specs.Kept.{kept-compare}
 use Rattle.invariant.specs.OnQueue.{alike-own, unlinked, goes-on-queue, public-look, begun-at}
-use Rattle.invariant.specs.Words.{agreed}
 use Rattle.invariant.specs.TableFacts.{OwnsNothing, owns-nothing-waiting, owns-nothing-idle}
 
 module _ (st : Setting) (who : Who) (seen : Word) where
@@ -44,9 +43,9 @@ module _ (st : Setting) (who : Who) (seen : Word) where
     pub again : Q.Inv g (Q.turned (queueOf s) (me .0) none)
         → Inv n (goneTo st (WalkTail (Queue who) (s .word) (toNode (s .word))) (s .nd)) g
     again down =
-        goes-on-queue i (me .0) tin (WalkTail (Queue who) (s .word) (toNode (s .word)))
-        (rw is (alike-own who seen (s .word) r _ ok true refl refl))
-        (s .nd) (linksOf (s .nd)) (unlinked (s .nd)) (λ x _. real-hands-off i x) begun
+        goes-on-queue st (WalkTail (Queue who) (s .word) (toNode (s .word)))
+        (rw is (alike-own who seen (s .word) r _ ok true refl refl)) (unlinked (s .nd)) (λ x _. real-hands-off i x)
+        begun
       where
         v : Newest g (s .word)
         v = i .newest (owner-queued (rw is refl))
@@ -79,16 +78,16 @@ module _ (st : Setting) (who : Who) (seen : Word) where
       left : (leaver (mine st) ≡ 0) × (leaver (placed (mine st) p) ≡ 0)
       left = (rw is refl, rw (l .leaves) refl)
 
-      same-readers : readers n (moved s (me .0) w (placed (mine st) p) (s .nd)) ≡ readers n s
+      same-readers : readers n (movedTo st w (placed (mine st) p)) ≡ readers n s
       same-readers = by (summed s (me .0) (placed (mine st) p) (s .nd) n tin (λ y. readsOf (y .holding)))
         where
           by : {a b : ℕ} → a + readsOf (mine st .holding) ≡ b + readsOf (mine st .holding) → a ≡ b
           by e = omega arith
 
-      back : Real n (moved s (me .0) w (placed (mine st) p) (s .nd)) → Real n s
+      back : Real n (movedTo st w (placed (mine st) p)) → Real n s
       back r = record { some = rw same-readers at (r .some); queue = has-queue; plain = plain }
 
-      pub unown : Inv n (moved s (me .0) w (placed (mine st) p) (s .nd)) g
+      pub unown : Inv n (movedTo st w (placed (mine st) p)) g
       unown = land i g (me .0) w (placed (mine st) p) (s .nd) (record {
         queue = viewed-still s (me .0) (placed (mine st) p) w (rw (l .registered, is)) queue;
         newest = λ e. same-newest w (clear-node QUEUE-LOCKED refl (s .word)) (i .newest has-queue);
@@ -142,9 +141,9 @@ module _ (st : Setting) (who : Who) (seen : Word) where
       by false d f = never refl f
 
   pub kept-queue-cas : mine st .place ≡ QueueCas who seen → Goes st (suc (me .0)) (λ v. queueCasOf v who seen)
-  kept-queue-cas here = pick-both (Kept st (suc (me .0))) (agreesOf (lookAt st (suc (me .0))) seen) _ _
-      (λ e. clears who refl (agreed (lookAt st (suc (me .0))) seen e))
-      (λ _. kept-stood st (suc (me .0)) here refl _ _ refl (again none (handsOff seen) is (put-down (rw is refl))))
+  kept-queue-cas here = kept-compare st (suc (me .0)) seen _ _
+      (λ same. clears who refl same)
+      (kept-stood st (suc (me .0)) here refl _ _ refl (again none (handsOff seen) is (put-down (rw is refl))))
     where
       is : aboutAt s (me .0) ≡ owning who seen none (handsOff seen)
       is = ap about here
@@ -153,15 +152,14 @@ module _ (st : Setting) (who : Who) (seen : Word) where
       flags = held-off (rw is at (i .fits (me .0)))
 
       ends : (o : Who) → o ≡ who → s .word ≡ seen
-          → Inv n (moved s (me .0) (clearQueueLocked (s .word)) (placed (mine st) (afterQueue o .place)) (s .nd)) g
+          → Inv n (movedTo st (clearQueueLocked (s .word)) (placed (mine st) (afterQueue o .place))) g
       ends (Waiter writer) z same =
           unown none (handsOff seen) is (CompletedLoad writer)
           (owns-nothing-waiting (ap waiter z) (rw is at (i .holding (me .0))))
           (ap downgraded same ∙ flags .1) (put-down (rw is refl)) (λ e. never e (ap locked same ∙ flags .0))
       ends Leaver z same =
-          unown none (handsOff seen) is Idle
-          (owns-nothing-idle (ap waiter z))
-          (ap downgraded same ∙ flags .1) (put-down (rw is refl)) (λ e. never e (ap locked same ∙ flags .0))
+          unown none (handsOff seen) is Idle (owns-nothing-idle (ap waiter z)) (ap downgraded same ∙ flags .1)
+          (put-down (rw is refl)) (λ e. never e (ap locked same ∙ flags .0))
 
       near : (o : Who) → isAside (afterQueue o .place) ≡ false
       near (Waiter writer) = refl
@@ -172,5 +170,5 @@ module _ (st : Setting) (who : Who) (seen : Word) where
           (writes (lookAt st (suc (me .0))) (clearQueueLocked seen) (mine st .holding) (afterQueue o))
       clears o z same =
           kept-stood st (suc (me .0)) here refl _ _ (near o)
-          (subst (λ x. Inv n (moved s (me .0) (clearQueueLocked x) (placed (mine st) (afterQueue o .place)) (s .nd))
+          (subst (λ x. Inv n (movedTo st (clearQueueLocked x) (placed (mine st) (afterQueue o .place)))
           g) same (ends o z same))

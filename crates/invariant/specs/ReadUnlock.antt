@@ -8,7 +8,6 @@ use native.Mathlib.Omega.{arith}
 use lib.Dec.{ltb}
 use borrow.Author.Tests.{ltb-true}
 use Rattle.word.specs.Base.{pick}
-use Rattle.word.specs.Cases.{pick-both}
 use Rattle.word.specs.Flags.{LOCKED, QUEUED, QUEUE-LOCKED, DOWNGRADED, SINGLE, locked, queued, queueLocked, downgraded}
 use Rattle.word.specs.Flags.{clearLocked, clearDowngraded, toNode}
 use Rattle.word.specs.Laws.{clear-has, clear-keeps, clear-node}
@@ -16,7 +15,6 @@ use Rattle.word.specs.Rules.{fewer, readUnlockOf}
 use Rattle.word.specs.declared.flags.Word.{Word}
 use Rattle.word.specs.declared.rules.ReadUnlocked.the-variants.{To, Contended, Refused}
 use Rattle.state.specs.Holding.{readsOf, releasedRead}
-use Rattle.state.specs.View.{agreesOf}
 use Rattle.state.specs.declared.place.Place.{Place}
 use Rattle.state.specs.declared.place.Place.the-variants.{WalkTail, ReadUnlockLoad, ReadUnlockCas}
 use Rattle.state.specs.declared.place.Walk.the-variants.{ReadUnlock}
@@ -30,10 +28,10 @@ use Rattle.invariant.specs.Invariant.{readers, writers, leavers, Hold, U
 use Rattle.invariant.specs.Invariant.{Inv}
 use Rattle.invariant.specs.Frames.{stay, viewed-still}
 use Rattle.invariant.specs.Moves.{movesNoTicket}
-use Rattle.invariant.specs.Kept.{lookAt, Kept, placed, Goes, Setting, mine, goneTo, kept-stood}
+use Rattle.invariant.specs.Kept.{lookAt, Kept, placed, Goes, Setting, mine, goneTo, kept-stood, kept-compare}
 use Rattle.invariant.specs.OffQueue.{off-queue, RoleDown, role-down, goes-off-queue, Ended, ends-call}
 use Rattle.invariant.specs.CallEnds.{ended-bare}
-use Rattle.invariant.specs.Words.{Plain, agreed, word-is, readers-word, fewer-word}
+use Rattle.invariant.specs.Words.{Plain, word-is, readers-word, fewer-word}
 use Rattle.invariant.specs.OnQueue.{begun-at}
 
 module _ (st : Setting) (k : ℕ) (p : Place) (here : mine st .place ≡ p)
@@ -209,7 +207,7 @@ module _ (st : Setting) (k : ℕ) where
 
   pub kept-read-unlock-cas : (seen : Word) → mine st .place ≡ ReadUnlockCas seen
       → Goes st k (λ v. readUnlockCasOf v seen)
-  kept-read-unlock-cas seen here = pick-both (Kept st k) (agreesOf (lookAt st k) seen) _ _
-      (λ e. subst (λ x. Kept st k (readUnlockCasBy (lookAt st k) (readUnlockOf x))) (agreed (lookAt st k) seen e)
+  kept-read-unlock-cas seen here = kept-compare st k seen _ _
+      (λ same. subst (λ x. Kept st k (readUnlockCasBy (lookAt st k) (readUnlockOf x))) same
       (taken st k (ReadUnlockCas seen) here refl refl))
-      (λ _. judged st k (ReadUnlockCas seen) here refl refl)
+      (judged st k (ReadUnlockCas seen) here refl refl)

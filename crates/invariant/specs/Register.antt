@@ -6,14 +6,13 @@ use mathlib.Core.Bool.{Bool, true, false, not}
 use mathlib.Core.Path.{_≡_, refl, sym, ap, _∙_, subst}
 use native.Mathlib.Omega.{arith}
 use Rattle.word.specs.Base.{pick}
-use Rattle.word.specs.Cases.{pick-both}
 use Rattle.word.specs.Flags.{SINGLE, locked, queued, queueLocked, downgraded, toNode, withoutFlags}
 use Rattle.word.specs.Laws.{registered-node, registered-queued, registered-locked, registered-downgraded}
 use Rattle.word.specs.Laws.{registered-queue-locked}
 use Rattle.word.specs.Rules.{registeredOf}
 use Rattle.word.specs.declared.flags.Word.{Word}
 use Rattle.state.specs.Holding.{readsOf, writesOf}
-use Rattle.state.specs.View.{at, walkFrom, agreesOf, writes}
+use Rattle.state.specs.View.{at, walkFrom, writes}
 use Rattle.state.specs.declared.place.Who.the-variants.{Waiter}
 use Rattle.state.specs.declared.place.Walk.the-variants.{Queue}
 use Rattle.state.specs.declared.place.Place.{Place}
@@ -32,9 +31,9 @@ use Rattle.invariant.specs.Invariant.{by-writer, by-readers, Count, Real
 use Rattle.invariant.specs.Exclusion.{unowned}
 use Rattle.invariant.specs.Frames.{moved, waits-as, view, summed, land}
 use Rattle.invariant.specs.Moves.{registers-waits, registers-walks, unregistered}
-use Rattle.invariant.specs.Kept.{lookAt, Kept, kept-still, placed, Goes, Setting, mine}
+use Rattle.invariant.specs.Kept.{lookAt, Kept, kept-still, placed, Goes, Setting, mine, movedTo, kept-compare}
 use Rattle.invariant.specs.Contend.{Contends, kept-contend}
-use Rattle.invariant.specs.Words.{agreed, word-is}
+use Rattle.invariant.specs.Words.{word-is}
 use Rattle.invariant.specs.OnQueue.{public-look, begun-at}
 
 -- where a registered thread goes on
@@ -83,11 +82,10 @@ module _ (st : Setting) (writer : Bool) (reloads : ℕ)
       by : (q : Bool) → queued (s .word) ≡ q
           → Q.Inv (registered g (suc (me .0)))
           (Q.moved (queueOf s) (me .0) (linksOf (s .nd)) (upd (waitOf (s .th) (s .nd)) (suc (me .0)) true) none)
-      by false e =
-          Registering.register-first (i .queue) (me .0) (withoutFlags (s .word) .0) (role-is false e) (i .nobody e)
+      by false e = Registering.register-first (i .queue) (me .0) (role-is false e) (i .nobody e)
       by true e =
           let v : Newest g (s .word) = i .newest e in
-          Registering.register-next (i .queue) (me .0) (withoutFlags (s .word) .0) (v .ticket) (role-is true e)
+          Registering.register-next (i .queue) (me .0) (v .ticket) (role-is true e)
           (v .last) (v .some) (v .node ∙ omega arith)
 
   -- the node's ticket is the newest
@@ -167,20 +165,20 @@ module _ (st : Setting) (writer : Bool) (reloads : ℕ)
     left-not : leaver (mine st) ≡ 0
     left-not = rw told
 
-    same-readers : readers n (moved s (me .0) w (placed (mine st) p) (s .nd)) ≡ readers n s
+    same-readers : readers n (movedTo st w (placed (mine st) p)) ≡ readers n s
     same-readers = by (summed s (me .0) (placed (mine st) p) (s .nd) n tin (λ y. readsOf (y .holding)))
       where
         by : {a b : ℕ} → a + readsOf (mine st .holding) ≡ b + readsOf (mine st .holding) → a ≡ b
         by e = omega arith
 
-    back : queued (s .word) ≡ true → Real n (moved s (me .0) w (placed (mine st) p) (s .nd)) → Real n s
+    back : queued (s .word) ≡ true → Real n (movedTo st w (placed (mine st) p)) → Real n s
     back q r = record {
       some = rw same-readers at (r .some);
       queue = q;
       plain = sym (registered-downgraded (s .word) me) ∙ r .plain;
     }
 
-    pub register : Inv n (moved s (me .0) w (placed (mine st) p) (s .nd)) (registered g (suc (me .0)))
+    pub register : Inv n (movedTo st w (placed (mine st) p)) (registered g (suc (me .0)))
     register = land i (registered g (suc (me .0))) (me .0) w (placed (mine st) p) (s .nd) (record {
       queue =
           subst (λ z. Q.Inv (registered g (suc (me .0))) z)
@@ -226,7 +224,7 @@ module _ (st : Setting) (writer : Bool) (reloads : ℕ)
             let c : l ≡ leavers n s = omega arith in
             rw (a, b, c) counts
 
-        oldest-counts : (q : Bool) → queued (s .word) ≡ q → Real n (moved s (me .0) w (placed (mine st) p) (s .nd))
+        oldest-counts : (q : Bool) → queued (s .word) ≡ q → Real n (movedTo st w (placed (mine st) p))
             → s .nd (upd (g .log) (g .hi) (suc (me .0)) (g .lo)) .next .0 ≡ SINGLE * readers n s
         oldest-counts true q r =
             let v : Newest g (s .word) = i .newest q in
@@ -237,7 +235,7 @@ module _ (st : Setting) (writer : Bool) (reloads : ℕ)
             ∙ ap (λ k. s .nd k .next .0) (upd-same (g .log) (g .hi) (suc (me .0)))
             ∙ first-counts q (rw same-readers at (r .some))
 
-        seen-held : Real n (moved s (me .0) w (placed (mine st) p) (s .nd)) → handsOff w ≡ true
+        seen-held : Real n (movedTo st w (placed (mine st) p)) → handsOff w ≡ true
         seen-held r =
             rw (
               not-false (locked w)
@@ -250,14 +248,14 @@ module _ (st : Setting) (writer : Bool) (reloads : ℕ)
               r .plain,
             )
 
-        others : (q : Bool) → queued (s .word) ≡ q → Real n (moved s (me .0) w (placed (mine st) p) (s .nd)) → (u : ℕ)
+        others : (q : Bool) → queued (s .word) ≡ q → Real n (movedTo st w (placed (mine st) p)) → (u : ℕ)
             → aboutAt s u .owner ≡ true → handsOff (aboutAt s u .seen) ≡ true
         others true q r u e = i .calm (back q r) u e
         others false q r u e = never (unowned i (i .bare q .0) u) e
 
   -- on to wait, by a thread that does not own the queue
   pub register-waits : queued (s .word) ≡ queueLocked (s .word)
-      → Inv n (moved s (me .0) w (placed (mine st) (CompletedLoad writer)) (s .nd)) (registered g (suc (me .0)))
+      → Inv n (movedTo st w (placed (mine st) (CompletedLoad writer))) (registered g (suc (me .0)))
   register-waits same =
       register (CompletedLoad writer)
       (record {
@@ -273,7 +271,7 @@ module _ (st : Setting) (writer : Bool) (reloads : ℕ)
 
   -- or to walk, by the one that turned QUEUE_LOCKED on
   pub register-walks : queued (s .word) ≡ true → queueLocked (s .word) ≡ false
-      → Inv n (moved s (me .0) w (placed (mine st) (WalkTail (Queue (Waiter writer)) w (toNode w))) (s .nd))
+      → Inv n (movedTo st w (placed (mine st) (WalkTail (Queue (Waiter writer)) w (toNode w))))
       (registered g (suc (me .0)))
   register-walks q f =
       register (WalkTail (Queue (Waiter writer)) w (toNode w))
@@ -304,9 +302,7 @@ module _ (st : Setting) (writer : Bool) (reloads : ℕ) where
         down = record {
           owner = rw told;
           registered = rw told;
-          role =
-              Registering.unready (i .queue) (me .0) (not (queued seen)) (withoutFlags seen .0)
-              (ap (λ a. a .role) told);
+          role = Registering.unready (i .queue) (me .0) (ap (λ a. a .role) told);
         };
         free = rw told at (i .holding (me .0));
         leaves = rw told;
@@ -336,18 +332,16 @@ module _ (st : Setting) (writer : Bool) (reloads : ℕ) where
 
   pub kept-register-cas : (seen : Word) → mine st .place ≡ RegisterCas writer reloads seen
       → Goes st (suc (me .0)) (λ v. registerCasOf v writer reloads seen)
-  kept-register-cas seen here = pick-both (Kept st (suc (me .0))) (agreesOf (lookAt st (suc (me .0))) seen) _ _
-      (λ e. by seen (agreed (lookAt st (suc (me .0))) seen e) here)
-      (λ _. kept-contend st (unready seen here) writer reloads)
+  kept-register-cas seen here = kept-compare st (suc (me .0)) seen _ _
+      (λ same. by seen same here)
+      (kept-contend st (unready seen here) writer reloads)
     where
       by : (seen : Word) → s .word ≡ seen → mine st .place ≡ RegisterCas writer reloads seen
           → Kept st (suc (me .0))
           (writes (lookAt st (suc (me .0))) (registeredOf seen me) (mine st .holding)
           (afterRegister writer seen (registeredOf seen me)))
       by seen same =
-          subst
-          (λ x. mine st .place ≡ RegisterCas writer reloads x
+          subst (λ x. mine st .place ≡ RegisterCas writer reloads x
           → Kept st (suc (me .0))
           (writes (lookAt st (suc (me .0))) (registeredOf x me) (mine st .holding)
-          (afterRegister writer x (registeredOf x me))))
-          same succeeds
+          (afterRegister writer x (registeredOf x me)))) same succeeds

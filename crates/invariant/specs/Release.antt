@@ -15,7 +15,7 @@ use Rattle.word.specs.Flags.{clearLocked, setQueueLocked, toNode}
 use Rattle.word.specs.Laws.{set-has, set-keeps, set-node, clear-has, clear-keeps, clear-node}
 use Rattle.word.specs.declared.flags.Word.{Word}
 use Rattle.state.specs.Holding.{readsOf, writesOf, releasedWrite}
-use Rattle.state.specs.View.{end, walkFrom, agreesOf, writes as writesTo}
+use Rattle.state.specs.View.{end, walkFrom, writes as writesTo}
 use Rattle.state.specs.declared.answer.Answer.the-variants.{Done}
 use Rattle.state.specs.declared.machine.Thread.{Thread}
 use Rattle.state.specs.declared.place.Place.the-variants.{WalkTail, WriteUnlockCas, ReleaseCas}
@@ -31,12 +31,12 @@ use Rattle.invariant.specs.Table.{handsOff, lookKind, offQueue, writes, 
 use Rattle.invariant.specs.Table.{leaver}
 use Rattle.invariant.specs.Invariant.{readers, writers, leavers, Hold, empty, Real, Newest, queueOf, Inv}
 use Rattle.invariant.specs.Exclusion.{needs-some}
-use Rattle.invariant.specs.Frames.{moved, summed, land, viewed-still, same-newest}
-use Rattle.invariant.specs.Kept.{lookAt, Kept, Goes, Setting, mine, kept-stood}
+use Rattle.invariant.specs.Frames.{summed, land, viewed-still, same-newest}
+use Rattle.invariant.specs.Kept.{lookAt, Kept, Goes, Setting, mine, kept-stood, movedTo, kept-compare}
 use Rattle.invariant.specs.OffQueue.{off-queue, RoleDown, role-down, goes-off-queue, Ended, ends-call}
 use Rattle.invariant.specs.CallEnds.{ended-bare}
 use Rattle.invariant.specs.OneHolder.{one-holder, one-holder-bare, one-holder-plain}
-use Rattle.invariant.specs.Words.{agreed, word-is}
+use Rattle.invariant.specs.Words.{word-is}
 use Rattle.invariant.specs.OnQueue.{public-look, begun-at}
 
 -- a thread that writes counts
@@ -52,8 +52,7 @@ module _ (st : Setting) (k : ℕ) where
       (ends-call i (me .0) tin down (word 0) _ (released (eqb-true (s .word .0) LOCKED e))))
       (λ e. kept-stood st k here refl _ _ refl
       (goes-off-queue i (me .0) tin down (ReleaseCas (s .word)) (off-queue _ _ _ _) (holds .reads)
-      (λ _. has-queue (eqb-false (s .word .0) LOCKED e)) (rw (is, holds .reads, holds .writes))
-      (rw is (never refl))))
+      (λ _. has-queue (eqb-false (s .word .0) LOCKED e)) (rw (is, holds .reads, holds .writes)) (rw is (never refl))))
     where
       is : aboutAt s (me .0) ≡ offQueue writes false false false
       is = ap about here
@@ -181,7 +180,7 @@ module _ (st : Setting) (k : ℕ) where
       begun : Q.Inv g (Q.turned (queueOf s) (me .0) (walk (lookKind (handsOff w)) (toNode w .0) (toNode w .0)))
       begun = begun-at s (me .0) _ (lookKind (handsOff w)) (public-look (handsOff w)) newest (down .role)
 
-      unreal : Real n (moved s (me .0) w next (s .nd)) → ⊥
+      unreal : Real n (movedTo st w next) → ⊥
       unreal r =
           omega (
             arith,
@@ -191,7 +190,7 @@ module _ (st : Setting) (k : ℕ) where
             reads-not,
           )
 
-      owns : Inv n (moved s (me .0) w next (s .nd)) g
+      owns : Inv n (movedTo st w next) g
       owns = land i g (me .0) w next (s .nd) (record {
         queue = viewed-still s (me .0) next w (rw is) begun;
         newest = λ e. newest;
@@ -237,10 +236,10 @@ module _ (st : Setting) (k : ℕ) where
         by false e = kept-stood st k here refl _ _ refl (owns e)
 
   pub kept-release-cas : (seen : Word) → mine st .place ≡ ReleaseCas seen → Goes st k (λ v. releaseCasOf v seen)
-  kept-release-cas seen here = pick-both (Kept st k) (agreesOf (lookAt st k) seen) _ _
-      (λ e. subst (λ x.
+  kept-release-cas seen here = kept-compare st k seen _ _
+      (λ same. subst (λ x.
       Kept st k (writesTo (lookAt st k) (releasedTo x) (releasedWrite (mine st .holding))
-      (afterRelease x (releasedTo x)))) (agreed (lookAt st k) seen e) (succeeds seen here))
-      (λ _. kept-stood st k here refl _ _ refl
+      (afterRelease x (releasedTo x)))) same (succeeds seen here))
+      (kept-stood st k here refl _ _ refl
       (goes-off-queue i (me .0) tin (down seen here) (ReleaseCas (s .word)) (off-queue _ _ _ _) (reads-not seen here)
       (λ _. has-queue seen here) (rw (is seen here)) (rw (is seen here) (never refl))))

@@ -13,7 +13,6 @@ use Rattle.word.specs.Number.{none as noNode, isNone}
 use Rattle.word.specs.declared.flags.Word.{Word}
 use Rattle.word.specs.declared.number.NodeNumber.{NodeNumber}
 use Rattle.state.specs.Node.{withTail}
-use Rattle.state.specs.View.{agreesOf}
 use Rattle.state.specs.declared.holding.Holding.{Holding}
 use Rattle.state.specs.declared.node.Node.{Node}
 use Rattle.state.specs.declared.place.Place.{Place}
@@ -32,15 +31,15 @@ use Rattle.queue.specs.Invariant as Q
 use Rattle.queue.specs.Walking
 use Rattle.queue.specs.Taking
 use Rattle.invariant.specs.Table.{handsOff, unheld, lookKind, mayWake, owning, about, aboutAt, linksOf, roleOf}
-use Rattle.invariant.specs.Table.{Free, Allowed}
+use Rattle.invariant.specs.Table.{Free, Allowed, same-role}
 use Rattle.invariant.specs.Invariant.{Real, Newest, queueOf, Inv}
 use Rattle.invariant.specs.Exclusion.{owned, is-queued, lonely}
-use Rattle.invariant.specs.Frames.{moved, glide}
+use Rattle.invariant.specs.Frames.{glide}
 use Rattle.invariant.specs.Moves.{sets-aside, takes-tail, split-fails, restores-tail}
-use Rattle.invariant.specs.Kept.{lookAt, Kept, kept-still, placed, Goes, Setting, mine, goneTo, kept-stood}
+use Rattle.invariant.specs.Kept.{Kept, kept-still, placed, Goes, Setting, mine, goneTo, kept-stood, movedTo}
+use Rattle.invariant.specs.Kept.{kept-compare}
 use Rattle.invariant.specs.OnQueue.{Alike, alike-own, Linked, unlinked, linked-tail, seen-as, goes-on-queue}
 use Rattle.invariant.specs.Owner.{unown}
-use Rattle.invariant.specs.Words.{agreed}
 use Rattle.invariant.specs.TableFacts.{owns-nothing-waking}
 
 -- who holds nothing may wake
@@ -63,21 +62,20 @@ module _ (st : Setting) (who : Who) (seen : Word) (tail : NodeNumber) where
       → filled r′ ≡ false → ok′ ≡ true → Q.Inv g (Q.turned (queueOf s) (me .0) r′)
       → Inv n (goneTo st p (s .nd)) g
   on-to r r′ ok ok′ is p on f e q =
-      goes-on-queue i (me .0) tin p (rw (is, on) (alike-own who seen seen r r′ ok ok′ f e)) (s .nd) (linksOf (s .nd))
-      (unlinked (s .nd)) (λ x _. ap handsOff (ap (λ a. a .seen) on) ∙ (rw is at (i .calm x (me .0))) refl) (rw on q)
+      goes-on-queue st p (rw (is, on) (alike-own who seen seen r r′ ok ok′ f e)) (unlinked (s .nd))
+      (λ x _. ap handsOff (ap (λ a. a .seen) on) ∙ (rw is at (i .calm x (me .0))) refl) (rw on q)
 
   pub kept-split-prev : mine st .place ≡ SplitPrev who seen tail → Goes st (tail .0) (λ v. splitPrevOf v who seen tail)
   kept-split-prev here = pick-both (Kept st (tail .0)) (isNone (s .nd (tail .0) .prev)) _ _
       (λ e. kept-stood st (tail .0) here refl _ _ refl
-      (on-to _ (head changes (toNode seen .0) (tail .0)) _ (not (handsOff seen)) is (TakeCas who seen tail) refl
-      refl (rw (flags .0))
+      (on-to _ (head changes (toNode seen .0) (tail .0)) _ (not (handsOff seen)) is (TakeCas who seen tail) refl refl
+      (rw (flags .0))
       (Q.turn g (queueOf s) (i .queue) (me .0) (head changes (toNode seen .0) (tail .0))
       (rw is at (i .queue .know (me .0))) (never refl))))
       (λ e. kept-stood st (tail .0) here refl _ _ refl
       (on-to _ (split (toNode seen .0) (tail .0) (s .nd (tail .0) .prev .0)) _ (unheld seen) is
       (SplitStore who seen tail (s .nd (tail .0) .prev)) refl refl (rw is at (i .fits (me .0)))
-      (Taking.load-split (i .queue) (me .0) (toNode seen .0) (tail .0) (ap (λ a. a .role) is)
-      (eqb-false (s .nd (tail .0) .prev .0) 0 e))))
+      (Taking.load-split (i .queue) (me .0) (same-role here) (eqb-false (s .nd (tail .0) .prev .0) 0 e))))
     where
       is : aboutAt s (me .0) ≡ owning who seen (head changes (toNode seen .0) (tail .0)) (unheld seen)
       is = ap about here
@@ -109,10 +107,8 @@ module _ (st : Setting) (who : Who) (seen : Word) (tail : NodeNumber) where
     glide i (asided g (me .0) (g .tk (toNode seen .0))) (me .0) (placed (mine st) (SplitCas who seen tail)) nd′
         (record {
           queue =
-              seen-as i (me .0) tin (SplitCas who seen tail) alike nd′ _ link
-              (asided g (me .0) (g .tk (toNode seen .0))) (s .word)
-              (Taking.set-aside (i .queue) (me .0) (toNode seen .0) (tail .0) (prev .0) (ap (λ a. a .role) is)
-              (alone _ is));
+              seen-as st (SplitCas who seen tail) alike link (asided g (me .0) (g .tk (toNode seen .0))) (s .word)
+              (Taking.set-aside (i .queue) (me .0) (same-role here) (alone _ is));
           newest =
               λ e. let y : Newest g (s .word) = i .newest e in
               record { ticket = y .ticket; last = y .last; some = omega (arith, two); node = y .node };
@@ -165,15 +161,13 @@ module _ (st : Setting) (who : Who) (seen : Word) (tail : NodeNumber) where
   -- ── the compare ──
 
   pub kept-split-cas : mine st .place ≡ SplitCas who seen tail → Goes st (suc (me .0)) (λ v. splitCasOf v who seen tail)
-  kept-split-cas here = pick-both (Kept st (suc (me .0))) (agreesOf (lookAt st (suc (me .0))) seen) _ _
-      (λ e. let same : s .word ≡ seen = agreed (lookAt st (suc (me .0))) seen e in
-      kept-still st (suc (me .0)) _ _ g
+  kept-split-cas here =
+      kept-compare st (suc (me .0)) seen _ _
+      (λ same. kept-still st (suc (me .0)) _ _ g
       (takes-tail me g noNode here
       (record { one = omega (arith, knows .one, knows .end); node = knows .ist; is = refl }))
-      (subst (λ x. Inv n
-      (moved s (me .0) (clearQueueLocked x) (placed (mine st) (WakeStore who tail noNode)) (s .nd)) g) same
-      (splits same)))
-      (λ _. kept-still st (suc (me .0)) _ _ g (split-fails me g (s .word) here) fails-to)
+      (subst (λ x. Inv n (movedTo st (clearQueueLocked x) (placed (mine st) (WakeStore who tail noNode))) g) same
+      (splits same))) (kept-still st (suc (me .0)) _ _ g (split-fails me g (s .word) here) fails-to)
     where
       is : aboutAt s (me .0) ≡ owning who seen (aside (toNode seen .0) (tail .0)) (unheld seen)
       is = ap about here
@@ -185,12 +179,11 @@ module _ (st : Setting) (who : Who) (seen : Word) (tail : NodeNumber) where
       knows = rw is at (i .queue .know (me .0))
 
       splits : s .word ≡ seen
-          → Inv n (moved s (me .0) (clearQueueLocked (s .word)) (placed (mine st) (WakeStore who tail noNode))
-          (s .nd)) g
+          → Inv n (movedTo st (clearQueueLocked (s .word)) (placed (mine st) (WakeStore who tail noNode))) g
       splits same = unown st who seen (aside (toNode seen .0) (tail .0)) (unheld seen) is (WakeStore who tail noNode)
           (owns-nothing-waking who _ refl (may-wake who (mine st .holding) (rw is at (i .holding (me .0)))))
           (ap downgraded same ∙ unheld-flags (locked seen) (downgraded seen) fit .1)
-          (Taking.commit (i .queue) (me .0) (toNode seen .0) (tail .0) (ap (λ a. a .role) is))
+          (Taking.commit (i .queue) (me .0) (same-role here))
           (λ _. omega (arith, knows .one, knows .end))
 
       fails-to : Inv n (goneTo st (SplitRestore who seen tail (s .word)) (s .nd)) g
@@ -198,8 +191,8 @@ module _ (st : Setting) (who : Who) (seen : Word) (tail : NodeNumber) where
           let v : Newest g (s .word) = i .newest (is-queued i (omega (arith, knows .base, knows .top))) in
           on-to _ (undo (toNode seen .0) (tail .0) (toNode (s .word) .0)) _ (unheld seen) is
           (SplitRestore who seen tail (s .word)) refl refl fit
-          (Taking.fail (i .queue) (me .0) (toNode seen .0) (tail .0) (toNode (s .word) .0) (v .ticket)
-          (ap (λ a. a .role) is) (v .last) (v .node))
+          (Taking.fail (i .queue) (me .0) (v .ticket)
+          (same-role here) (v .last) (v .node))
 
   -- ── the restore: the OLD head's tail, and the walk goes on from the reported word ──
 
@@ -211,9 +204,8 @@ module _ (st : Setting) (who : Who) (seen : Word) (tail : NodeNumber) where
         (placed (mine st) (WalkTail (Queue who) reported (toNode reported)))
         (upd (s .nd) (toNode seen .0) (withTail (s .nd (toNode seen .0)) tail)) (record {
           queue =
-              seen-as i (me .0) tin (WalkTail (Queue who) reported (toNode reported))
-              (rw is (alike-own who seen reported _ _ (unheld seen) true refl refl))
-              (upd (s .nd) (toNode seen .0) (withTail (s .nd (toNode seen .0)) tail)) _ link
+              seen-as st (WalkTail (Queue who) reported (toNode reported))
+              (rw is (alike-own who seen reported _ _ (unheld seen) true refl refl)) link
               (restored g (me .0) (g .taken (me .0) .beg)) (s .word) (queue-on (handsOff reported));
           newest =
               λ e. let y : Newest g (s .word) = i .newest e in
@@ -252,9 +244,7 @@ module _ (st : Setting) (who : Who) (seen : Word) (tail : NodeNumber) where
       back : Q.Inv (restored g (me .0) (g .taken (me .0) .beg))
           (Q.relinked (queueOf s) (me .0) (setTl (linksOf (s .nd)) (toNode seen .0) (tail .0))
           (walk changes (toNode reported .0) (toNode reported .0)))
-      back =
-          Taking.restore (i .queue) (me .0) (toNode seen .0) (tail .0) (toNode reported .0) (ap (λ a. a .role) is)
-          (alone _ is)
+      back = Taking.restore (i .queue) (me .0) (same-role here) (alone _ is)
 
       -- it changes the queue again, or only looks, as the reported word says
       queue-on : (k : Bool)
@@ -264,5 +254,5 @@ module _ (st : Setting) (who : Who) (seen : Word) (tail : NodeNumber) where
       queue-on false = back
       queue-on true =
           rw Q.moved-twice
-          at (Walking.ease back (me .0) (toNode reported .0) (toNode reported .0)
+          at (Walking.ease back (me .0)
           (upd-same (roleOf (s .th)) (me .0) (walk changes (toNode reported .0) (toNode reported .0))))

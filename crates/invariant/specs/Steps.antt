@@ -126,8 +126,7 @@ module _ {n : ℕ} {s : Lock} {g : Ghost} (i : Inv n s g) where
       let x : Waiter-of s (k .0) = waiter-of s (k .0) w in
       let l : x .thread < n = inside i (x .thread) (λ a. a .registered) refl (x .registered) in (
         k .0 - 1,
-        sym
-            (pick-no (ltb (k .0) 1) _ Outside _ (le-ltb (k .0) 1 (omega (arith, x .node)))
+        sym (pick-no (ltb (k .0) 1) _ Outside _ (le-ltb (k .0) 1 (omega (arith, x .node)))
             (pick-no (ltb n (k .0)) _ Outside _ (le-ltb n (k .0) (omega (arith, x .node))) refl)),
       )
 

@@ -33,7 +33,7 @@ use Rattle.invariant.specs.Invariant.{Inv}
 use Rattle.invariant.specs.Exclusion.{real, quiet-reader}
 use Rattle.invariant.specs.Frames.{moved, waits-as, summed, land, viewed}
 use Rattle.invariant.specs.Moves.{stood}
-use Rattle.invariant.specs.Kept.{lookAt, Kept, Goes, Setting, mine}
+use Rattle.invariant.specs.Kept.{lookAt, Kept, Goes, Setting, mine, became}
 use Rattle.invariant.specs.OffQueue.{OffQueue, off-queue}
 
 links-next : (nd : ℕ → Node) (k : ℕ) (m : Word) → linksOf (upd nd k (withNext (nd k) m)) ≡ setNx (linksOf nd) k (m .0)
@@ -93,7 +93,7 @@ module _ (st : Setting) (seen : Word) (tail : NodeNumber) (here : mine st .place
       (λ k ne. refl)
 
   abbrev next : Place → Thread
-  next p = record { place = p; token = mine st .token; holding = releasedRead (mine st .holding) }
+  next p = became (mine st) p (releasedRead (mine st .holding))
 
   -- the last one leaves LOCKED to be cleared
   subtract : (p : Place) → OffQueue (about p) → Allowed (about p .may) (releasedRead (mine st .holding))
@@ -104,7 +104,7 @@ module _ (st : Setting) (seen : Word) (tail : NodeNumber) (here : mine st .place
         viewed s (me .0) (next p) nodes (s .word) (setNx (linksOf (s .nd)) (tail .0) (less .0))
         (waitOf (s .th) (s .nd)) (links-next (s .nd) (tail .0) less) waits
         (rw (o .role)
-        (Walking.subtract (i .queue) (me .0) (toNode seen .0) (tail .0) (less .0) (ap (λ z. z .role) is)
+        (Walking.subtract (i .queue) (me .0) (less .0) (ap (λ z. z .role) is)
         (quiet-reader i (me .0) is-reader some)));
     newest = i .newest;
     nobody = i .nobody;

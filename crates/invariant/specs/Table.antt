@@ -4,7 +4,7 @@
 -- Assumes nothing.
 use Prim.Native.Nat.{ℕ, zero, suc}
 use mathlib.Core.Bool.{Bool, true, false, not}
-use mathlib.Core.Path.{_≡_}
+use mathlib.Core.Path.{_≡_, ap}
 use Rattle.word.specs.Base.{pick}
 use Rattle.word.specs.Flags.{word, locked, queued, downgraded, toNode, withoutFlags}
 use Rattle.word.specs.declared.flags.Word.{Word}
@@ -251,6 +251,9 @@ waitOf th nd (suc t) = pick (about (th t .place) .registered) (not (nd (suc t) .
 
 abbrev pub roleOf : (ℕ → Thread) → ℕ → Role
 roleOf th t = about (th t .place) .role
+
+pub same-role : {p q : Place} → p ≡ q → about p .role ≡ about q .role
+same-role e = ap (λ p. about p .role) e
 
 -- ── holders, through what they read and write ──
 

@@ -13,7 +13,6 @@ use Rattle.word.specs.Rules.{takenOf}
 use Rattle.word.specs.declared.flags.Word.{Word}
 use Rattle.word.specs.declared.number.NodeNumber.{NodeNumber}
 use Rattle.state.specs.Holding.{readsOf, writesOf}
-use Rattle.state.specs.View.{agreesOf}
 use Rattle.state.specs.declared.machine.Thread.{Thread}
 use Rattle.state.specs.declared.place.Place.the-variants.{TakeCas, WakePrev}
 use Rattle.state.specs.declared.place.Who.{Who}
@@ -26,16 +25,16 @@ use Rattle.queue.specs.Invariant as Q
 use Rattle.queue.specs.Walking
 use Rattle.queue.specs.Taking
 use Rattle.invariant.specs.Table.{handsOff, writes, owning, about, Lock, aboutAt, linksOf, Allowed, weight}
-use Rattle.invariant.specs.Table.{leaver}
+use Rattle.invariant.specs.Table.{leaver, same-role}
 use Rattle.invariant.specs.Invariant.{readers, writers, leavers, Hold, Unqueued, empty, read, Newest, queueOf}
 use Rattle.invariant.specs.Invariant.{Inv}
 use Rattle.invariant.specs.Exclusion.{inside, owned, unowned, is-queued, lonely, nobody-needs}
 use Rattle.invariant.specs.Frames.{moved, land, viewed-still}
 use Rattle.invariant.specs.Moves.{takes-all, take-fails}
-use Rattle.invariant.specs.Kept.{lookAt, Kept, kept-still, placed, Goes, Setting, mine}
+use Rattle.invariant.specs.Kept.{kept-still, placed, Goes, Setting, mine, movedTo, kept-compare}
 use Rattle.invariant.specs.Owner.{again}
 use Rattle.invariant.specs.Split.{may-wake}
-use Rattle.invariant.specs.Words.{Plain, agreed, readers-word}
+use Rattle.invariant.specs.Words.{Plain, readers-word}
 
 -- ── the word is unqueued again, and the queue is thread t's ──
 
@@ -114,10 +113,10 @@ module _ (st : Setting) (who : Who) (seen : Word) (tail : NodeNumber)
   -- thread t's holding and the leavers stay: what the word becomes is what holds already
   take-to : s .word ≡ seen → (w : Word) → Plain w → writers n s ≡ 0 → leavers n s ≡ 0
       → ((w .0 ≡ 0) × (readers n s ≡ 0)) ⊎ ((w .0 ≡ SINGLE * readers n s + LOCKED) × (1 ≤ readers n s))
-      → Inv n (moved s (me .0) w (placed (mine st) (WakePrev who tail)) (s .nd)) (took g (me .0))
+      → Inv n (movedTo st w (placed (mine st) (WakePrev who tail))) (took g (me .0))
   take-to same w p w0 l0 rs = takes-whole i (me .0) tin w (placed (mine st) (WakePrev who tail)) p (record {
     queue =
-        Taking.take (i .queue) (me .0) (toNode seen .0) (tail .0) (v .ticket) (ap (λ a. a .role) is)
+        Taking.take (i .queue) (me .0) (v .ticket) (same-role here)
         (lonely i (me .0) (rw is refl) (rw is hands-on)) (v .last) (v .node ∙ ap (λ y. toNode y .0) same);
     registered = rw is;
     owner = refl;
@@ -145,14 +144,13 @@ module _ (st : Setting) (who : Who) (seen : Word) (tail : NodeNumber)
           read (rw e (z .0)) (omega arith) (record { reads = refl; writes = omega arith; leaves = omega arith })
 
   takes : s .word ≡ seen
-      → Inv n (moved s (me .0) (takenOf (s .word)) (placed (mine st) (WakePrev who tail)) (s .nd)) (took g (me .0))
-  takes same = pick-both
-      (λ w. Inv n (moved s (me .0) w (placed (mine st) (WakePrev who tail)) (s .nd)) (took g (me .0)))
+      → Inv n (movedTo st (takenOf (s .word)) (placed (mine st) (WakePrev who tail))) (took g (me .0))
+  takes same = pick-both (λ w. Inv n (movedTo st w (placed (mine st) (WakePrev who tail))) (took g (me .0)))
       (downgraded (s .word)) (word (SINGLE + LOCKED)) (word 0) handed free
     where
       -- DOWNGRADED: one reader holds
       handed : downgraded (s .word) ≡ true
-          → Inv n (moved s (me .0) (word (SINGLE + LOCKED)) (placed (mine st) (WakePrev who tail)) (s .nd))
+          → Inv n (movedTo st (word (SINGLE + LOCKED)) (placed (mine st) (WakePrev who tail)))
           (took g (me .0))
       handed d =
           let c : Hold (readers n s) (writers n s) (leavers n s) 1 0 0 = i .count .handed has-queue
@@ -162,7 +160,7 @@ module _ (st : Setting) (who : Who) (seen : Word) (tail : NodeNumber)
 
       -- else, as it did not see hands off, nobody holds
       free : downgraded (s .word) ≡ false
-          → Inv n (moved s (me .0) (word 0) (placed (mine st) (WakePrev who tail)) (s .nd)) (took g (me .0))
+          → Inv n (movedTo st (word 0) (placed (mine st) (WakePrev who tail))) (took g (me .0))
       free d =
           let c : Hold (readers n s) (writers n s) (leavers n s) 0 0 0 = i .count .unlocked has-queue
           (unlocked (locked (s .word)) (downgraded (s .word)) (ap handsOff same ∙ hands-on) d) in
@@ -175,11 +173,10 @@ module _ (st : Setting) (who : Who) (seen : Word) (tail : NodeNumber)
           unlocked true false e z = never e refl
 
   pub kept-take-cas : Goes st (suc (me .0)) (λ v. takeCasOf v who seen tail)
-  kept-take-cas = pick-both (Kept st (suc (me .0))) (agreesOf (lookAt st (suc (me .0))) seen) _ _
-      (λ e. let same : s .word ≡ seen = agreed (lookAt st (suc (me .0))) seen e in
-      kept-still st (suc (me .0)) _ _ _ (takes-all me g here _ (record { none = knows .ground; is = refl }))
-      (subst (λ y. Inv n (moved s (me .0) (takenOf y) (placed (mine st) (WakePrev who tail)) (s .nd))
+  kept-take-cas = kept-compare st (suc (me .0)) seen _ _
+      (λ same. kept-still st (suc (me .0)) _ _ _ (takes-all me g here _ (record { none = knows .ground; is = refl }))
+      (subst (λ y. Inv n (movedTo st (takenOf y) (placed (mine st) (WakePrev who tail)))
       (took g (me .0))) same (takes same)))
-      (λ _. kept-still st (suc (me .0)) _ _ g (take-fails me g here _ _ _)
+      (kept-still st (suc (me .0)) _ _ g (take-fails me g here _ _ _)
       (again st who seen _ _ is
-      (Walking.leave (i .queue) (me .0) changes refl (toNode seen .0) (tail .0) (ap (λ a. a .role) is))))
+      (Walking.leave (i .queue) (me .0) refl (same-role here))))

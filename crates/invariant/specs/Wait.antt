@@ -15,8 +15,8 @@ use Rattle.queue.specs.Roles.{none}
 use Rattle.queue.specs.Invariant as Q
 use Rattle.invariant.specs.Table.{waiting, about, aboutAt, linksOf, waitOf, Free}
 use Rattle.invariant.specs.Invariant.{queueOf, Inv}
-use Rattle.invariant.specs.Frames.{moved, waits-as, stay, viewed}
-use Rattle.invariant.specs.Kept.{Kept, placed, Goes, Setting, mine, goneTo, kept-stood}
+use Rattle.invariant.specs.Frames.{waits-as, stay, viewed}
+use Rattle.invariant.specs.Kept.{Kept, placed, Goes, Setting, mine, goneTo, kept-stood, movedTo}
 
 module _ (st : Setting) where
   open Setting st using (n, s, g, i, me, tin)
@@ -28,7 +28,7 @@ module _ (st : Setting) where
     -- its role is none, before and after
     queue : (x : Thread) → about (x .place) .role ≡ none
         → waitOf (upd (s .th) (me .0) x) (s .nd) ≡ waitOf (s .th) (s .nd)
-        → Q.Inv g (queueOf (moved s (me .0) (s .word) x (s .nd)))
+        → Q.Inv g (queueOf (movedTo st (s .word) x))
     queue x none-after same =
         viewed s (me .0) x (s .nd) (s .word) (linksOf (s .nd)) (waitOf (s .th) (s .nd)) refl same
         (rw none-after
@@ -37,7 +37,7 @@ module _ (st : Setting) where
     -- it waits on, with a token or without
     waits-on : (q : Place) (token asleep′ : Bool) → about q ≡ waiting asleep′
         → (asleep′ ≡ true → s .nd (suc (me .0)) .completed ≡ true → token ≡ true)
-        → Inv n (moved s (me .0) (s .word) (record { place = q; token = token; holding = mine st .holding }) (s .nd)) g
+        → Inv n (movedTo st (s .word) (record { place = q; token = token; holding = mine st .holding })) g
     waits-on q token asleep′ on called = stay n s g (me .0)
         (record { place = q; token = token; holding = mine st .holding }) (s .nd) i (record {
           queue =

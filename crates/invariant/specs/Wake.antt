@@ -32,6 +32,7 @@ use Rattle.queue.specs.Reads.{EachNode, NodeWaits, named-wait}
 use Rattle.queue.specs.Invariant as Q
 use Rattle.queue.specs.Taking
 use Rattle.invariant.specs.Table.{waiter, waking, about, Lock, aboutAt, linksOf, waitOf, roleOf, Allowed}
+use Rattle.invariant.specs.Table.{same-role}
 use Rattle.invariant.specs.Invariant.{Responsible, contends, called, wakes, Newest, queueOf, Inv}
 use Rattle.invariant.specs.Exclusion.{inside}
 use Rattle.invariant.specs.Frames.{moved, waits-as, glide, viewed}
@@ -254,9 +255,9 @@ module _ (st : Setting) (few : st .n ≤ threadLimit) (who : Who) (current : Nod
   kept-wake-prev here =
       let at-wake : aboutAt s (me .0) ≡ waking who (wake (current .0)) = ap about here in
       kept-stood st (current .0) here refl _ _ refl
-      (goes-on-queue i (me .0) tin (WakeStore who current (s .nd (current .0) .prev))
-      (rw at-wake (alike-wake who _ _ refl)) (s .nd) (linksOf (s .nd)) (unlinked (s .nd)) (λ r. never refl)
-      (Taking.load-wake (i .queue) (me .0) (current .0) (ap (λ a. a .role) at-wake)))
+      (goes-on-queue st (WakeStore who current (s .nd (current .0) .prev)) (rw at-wake (alike-wake who _ _ refl))
+      (unlinked (s .nd)) (λ r. never refl)
+      (Taking.load-wake (i .queue) (me .0) (same-role here)))
 
   module _ (prev : NodeNumber) (here : mine st .place ≡ WakeStore who current prev) where
     whom : Waiter-of s (current .0)
@@ -318,7 +319,7 @@ module _ (st : Setting) (few : st .n ≤ threadLimit) (who : Who) (current : Nod
         (complete with-token (me .0) tin who current prev (same-place ∙ here) has-token p (rw same-holding to) q)
 
     role-is : roleOf (called-first .th) (me .0) ≡ store (current .0) (prev .0)
-    role-is = ap (λ p. about p .role) (same-place ∙ here)
+    role-is = same-role (same-place ∙ here)
 
     may : Allowed (about (WakeStore who current prev) .may) (mine st .holding)
     may = rw here at (i .holding (me .0))
@@ -329,8 +330,7 @@ module _ (st : Setting) (few : st .n ≤ threadLimit) (who : Who) (current : Nod
         (λ e. (
           completed g (me .0),
           wake-to (WakePrev who prev) (owns-nothing-waking who _ refl may)
-              (Taking.complete-more (with-token .queue) (me .0) (current .0) (prev
-              .0) role-is (eqb-false (prev .0) 0 e)),
+              (Taking.complete-more (with-token .queue) (me .0) role-is (eqb-false (prev .0) 0 e)),
           completes-more me g here _ done-with,
         ))
       where
@@ -348,18 +348,14 @@ module _ (st : Setting) (few : st .n ≤ threadLimit) (who : Who) (current : Nod
             → Q.Inv (completed g (me .0))
             (Q.moved (queueOf called-first) (me .0) (linksOf (s .nd))
             (upd (waitOf (called-first .th) (s .nd)) (current .0) false) none)
-        finished z = Taking.complete-last (with-token .queue) (me .0) (current .0) (role-is ∙ ap (store (current .0)) z)
+        finished z = Taking.complete-last (with-token .queue) (me .0) (role-is ∙ ap (store (current .0)) z)
 
         last : (o : Who) → o ≡ who → prev .0 ≡ 0
             → Inv n (record {
-              word =
-                  s .word;
+              word = s .word;
               th = wokenIn (upd (s .th) (me .0) (placed (mine st) (afterQueue o .place))) (ownerOf current);
-              nd = upd
-                  (s .nd) (current .0) (withCompleted (s .nd (current .0)));
+              nd = upd (s .nd) (current .0) (withCompleted (s .nd (current .0)));
             }) (completed g (me .0))
         last (Waiter writer) o z =
-            wake-to (CompletedLoad writer)
-            (owns-nothing-waiting (ap waiter o) (rw (← o) at may))
-            (finished z)
+            wake-to (CompletedLoad writer) (owns-nothing-waiting (ap waiter o) (rw (← o) at may)) (finished z)
         last Leaver o z = wake-to Idle (owns-nothing-idle (ap waiter o)) (finished z)

@@ -10,7 +10,7 @@ use Rattle.word.specs.Flags.{locked, downgraded, toNode}
 use Rattle.word.specs.Number.{isNone}
 use Rattle.word.specs.declared.flags.Word.{Word}
 use Rattle.word.specs.declared.number.NodeNumber.{NodeNumber}
-use Rattle.state.specs.Node.{withPrev, withTail}
+use Rattle.state.specs.Node.{withTail}
 use Rattle.state.specs.declared.node.Node.{Node}
 use Rattle.state.specs.declared.place.Place.{Place}
 use Rattle.state.specs.declared.place.Place.the-variants.{WalkTail, WalkNext, WalkPrev, WalkHead, QueueCas, SplitPrev}
@@ -25,60 +25,56 @@ use Rattle.walk.specs.FindTail.{walkTailOf, walkNextOf, walkPrevOf}
 use Rattle.unlock.specs.AfterWalk.{markedBy, walkHeadOf}
 use Rattle.queue.specs.Tests.{never}
 use Rattle.queue.specs.Updates.{upd, upd-same}
-use Rattle.queue.specs.Queue.{setTl}
+use Rattle.queue.specs.Queue.{setTl, Links}
 use Rattle.queue.specs.Roles.{Role, none, head, onQueue, filled, looks, changes, alone}
 use Rattle.queue.specs.Invariant as Q
 use Rattle.queue.specs.Walking
-use Rattle.invariant.specs.Table.{handsOff, unheld, lookKind, walkKindOf, walking, owning, about, aboutAt}
-use Rattle.invariant.specs.Table.{linksOf, roleOf}
+use Rattle.invariant.specs.Table.{handsOff, unheld, lookKind, walking, owning, about, aboutAt, linksOf, roleOf}
+use Rattle.invariant.specs.Table.{same-role}
 use Rattle.invariant.specs.Invariant.{Real, queueOf, Inv}
 use Rattle.invariant.specs.TableFacts.{row-facts}
 use Rattle.invariant.specs.Exclusion.{on-queue, quiet-owner, quiet-reader}
 use Rattle.invariant.specs.Moves.{stood}
 use Rattle.invariant.specs.Kept.{lookAt, Kept, Goes, Setting, mine, goneTo, kept-stood}
 use Rattle.invariant.specs.OnQueue.{Alike, alike-walk, alike-own, unlinked, linked-tail, linked-prev}
-use Rattle.invariant.specs.OnQueue.{goes-on-queue}
+use Rattle.invariant.specs.OnQueue.{goes-on-queue, Linked}
 
 module _ (st : Setting) where
   open Setting st using (n, s, g, i, me, tin)
 
   -- a walk goes on with the word that it saw
-  module _ (k : Walk) (seen : Word) (r r′ : Role) (is : aboutAt s (me .0) ≡ walking k seen r) (p : Place)
-      (on : about p ≡ walking k seen r′) (f : filled r′ ≡ false) where
-    alike : Alike (aboutAt s (me .0)) (about p)
-    alike = rw (is, on) (alike-walk k seen seen r r′ f)
+  walks-on : (k : Walk) (seen : Word) {r r′ : Role} {q : Place} → mine st .place ≡ q → about q ≡ walking k seen r
+      → (p : Place) → about p ≡ walking k seen r′ → filled r′ ≡ false → {nd : ℕ → Node} {l : Links}
+      → Linked (s .nd) nd l
+      → Q.Inv g (Q.relinked (queueOf s) (me .0) l (about p .role)) → Inv n (goneTo st p nd) g
+  walks-on k seen {r} {r′} here was p on f link = goes-on-queue st p alike link calm
+    where
+      is : aboutAt s (me .0) ≡ walking k seen r
+      is = ap about here ∙ was
 
-    calm : Real n s → about p .owner ≡ true → handsOff (about p .seen) ≡ true
-    calm x e =
-        ap handsOff (ap (λ a. a .seen) on ∙ sym (ap (λ a. a .seen) is)) ∙ i .calm x (me .0) (sym (alike .owner) ∙ e)
+      alike : Alike (aboutAt s (me .0)) (about p)
+      alike = rw (is, on) (alike-walk k seen seen r r′ f)
+
+      calm : Real n s → about p .owner ≡ true → handsOff (about p .seen) ≡ true
+      calm x e =
+          ap handsOff (ap (λ a. a .seen) on ∙ sym (ap (λ a. a .seen) is)) ∙ i .calm x (me .0) (sym (alike .owner) ∙ e)
 
   pub kept-walk-tail : (k : Walk) (seen : Word) (current : NodeNumber) → mine st .place ≡ WalkTail k seen current
       → Goes st (current .0) (λ v. walkTailOf v k seen current)
   kept-walk-tail k seen current here = pick-both (Kept st (current .0)) (isNone (s .nd (current .0) .tail)) _ _
       (λ e. kept-stood st (current .0) here refl _ _ refl
-      (goes-on-queue i (me .0) tin (WalkNext k seen current)
-      (alike k seen _ _ (ap about here) (WalkNext k seen current) refl refl) (s .nd) (linksOf (s .nd))
-      (unlinked (s .nd)) (calm k seen _ _ (ap about here) (WalkNext k seen current) refl refl)
-      (Walking.load-none (i .queue) (me .0) (walkKindOf k seen) (toNode seen .0) (current .0)
-      (ap (λ p. about p .role) here) (eqb-true (s .nd (current .0) .tail .0) 0 e))))
+      (walks-on k seen here refl (WalkNext k seen current) refl refl (unlinked (s .nd))
+      (Walking.load-none (i .queue) (me .0) (same-role here) (eqb-true (s .nd (current .0) .tail .0) 0 e))))
       (λ e. kept-stood st (current .0) here refl _ _ refl
-      (goes-on-queue i (me .0) tin (WalkHead k seen (s .nd (current .0) .tail))
-      (alike k seen _ _ (ap about here) (WalkHead k seen (s .nd (current .0) .tail)) refl refl) (s .nd)
-      (linksOf (s .nd)) (unlinked (s .nd))
-      (calm k seen _ _ (ap about here) (WalkHead k seen (s .nd (current .0) .tail)) refl refl)
-      (Walking.load-tail (i .queue) (me .0) (walkKindOf k seen) (toNode seen .0) (current .0)
-      (ap (λ p. about p .role) here) (eqb-false (s .nd (current .0) .tail .0) 0 e))))
+      (walks-on k seen here refl (WalkHead k seen (s .nd (current .0) .tail)) refl refl (unlinked (s .nd))
+      (Walking.load-tail (i .queue) (me .0) (same-role here) (eqb-false (s .nd (current .0) .tail .0) 0 e))))
 
   pub kept-walk-next : (k : Walk) (seen : Word) (current : NodeNumber) → mine st .place ≡ WalkNext k seen current
       → Goes st (current .0) (λ v. walkNextOf v k seen current)
   kept-walk-next k seen current here =
       kept-stood st (current .0) here refl _ _ refl
-      (goes-on-queue i (me .0) tin (WalkPrev k seen current (toNode (s .nd (current .0) .next)))
-      (alike k seen _ _ (ap about here) (WalkPrev k seen current (toNode (s .nd (current .0) .next))) refl refl)
-      (s .nd) (linksOf (s .nd)) (unlinked (s .nd))
-      (calm k seen _ _ (ap about here) (WalkPrev k seen current (toNode (s .nd (current .0) .next))) refl refl)
-      (Walking.load-next (i .queue) (me .0) (walkKindOf k seen) (toNode seen .0) (current .0)
-      (ap (λ p. about p .role) here)))
+      (walks-on k seen here refl (WalkPrev k seen current (toNode (s .nd (current .0) .next))) refl refl
+      (unlinked (s .nd)) (Walking.load-next (i .queue) (me .0) (same-role here)))
 
   -- who walks on the queue is its owner or a contended reader: nobody else changes it
   quiet-walk : onQueue (roleOf (s .th) (me .0)) ≡ true → Q.Quiet (queueOf s) (me .0)
@@ -93,12 +89,9 @@ module _ (st : Setting) where
       → Goes st (next .0) (λ v. walkPrevOf v k seen current next)
   kept-walk-prev k seen current next here = (
     g,
-    goes-on-queue i (me .0) tin (WalkTail k seen next)
-        (alike k seen _ _ (ap about here) (WalkTail k seen next) refl refl)
-        (upd (s .nd) (next .0) (withPrev (s .nd (next .0)) current)) _ (linked-prev (s .nd) (next .0) current)
-        (calm k seen _ _ (ap about here) (WalkTail k seen next) refl refl)
-        (Walking.store-prev (i .queue) (me .0) (walkKindOf k seen) (toNode seen .0) (current .0) (next .0)
-        (ap (λ p. about p .role) here) (λ e. quiet-walk (ap (λ p. onQueue (about p .role)) here ∙ e))),
+    walks-on k seen here refl (WalkTail k seen next) refl refl (linked-prev (s .nd) (next .0) current)
+        (Walking.store-prev (i .queue) (me .0)
+        (same-role here) (λ e. quiet-walk (ap (λ p. onQueue (about p .role)) here ∙ e))),
     stood me g here refl _ refl,
   )
 
@@ -116,20 +109,19 @@ module _ (st : Setting) where
       owns p r ok on f e q =
           let is : aboutAt s (me .0)
           ≡ owning who seen (head (lookKind (handsOff seen)) (toNode seen .0) (tail .0)) true = ap about here in
-          goes-on-queue i (me .0) tin p (rw (is, on) (alike-own who seen seen _ r true ok f e)) nodes _
+          goes-on-queue st p (rw (is, on) (alike-own who seen seen _ r true ok f e))
           (linked-tail (s .nd) (toNode seen .0) tail)
           (λ x _. ap handsOff (ap (λ a. a .seen) on) ∙ (rw is at (i .calm x (me .0))) refl)
           (rw on q)
 
       role-is : (b : Bool) → handsOff seen ≡ b → roleOf (s .th) (me .0) ≡ head (lookKind b) (toNode seen .0) (tail .0)
-      role-is b e = ap (λ p. about p .role) here ∙ ap (λ c. head (lookKind c) (toNode seen .0) (tail .0)) e
+      role-is b e = same-role here ∙ ap (λ c. head (lookKind c) (toNode seen .0) (tail .0)) e
 
       -- hands off: it leaves the queue as it is
       leaves : handsOff seen ≡ true → Inv n (goneTo st (QueueCas who seen) nodes) g
       leaves e = owns (QueueCas who seen) none (handsOff seen) refl refl e
           (rw Q.moved-twice at (Walking.leave
-          (Walking.store-tail (i .queue) (me .0) looks refl (toNode seen .0) (tail .0) (role-is true e)) (me .0)
-          looks refl (toNode seen .0) (tail .0)
+          (Walking.store-tail (i .queue) (me .0) refl (role-is true e)) (me .0) refl
           (upd-same (roleOf (s .th)) (me .0) (head looks (toNode seen .0) (tail .0)))))
 
       -- else it takes something off
@@ -138,7 +130,7 @@ module _ (st : Setting) where
           → Inv n (goneTo st p nodes) g
       changing e p ok on f =
           owns p (head changes (toNode seen .0) (tail .0)) ok on refl f
-          (Walking.store-tail (i .queue) (me .0) changes refl (toNode seen .0) (tail .0) (role-is false e))
+          (Walking.store-tail (i .queue) (me .0) refl (role-is false e))
 
       marked : handsOff seen ≡ false → (downgraded seen ≡ false → unheld seen ≡ true) → (m : Mark) → (m ≡ Missing → ⊥)
           → Kept st (toNode seen .0)
@@ -162,11 +154,8 @@ module _ (st : Setting) where
         → Goes st (toNode seen .0) (λ v. walkHeadOf v ReadUnlock seen tail)
     kept-walk-head-reader here = (
       g,
-      goes-on-queue i (me .0) tin (Subtract seen tail)
-          (alike ReadUnlock seen _ _ (ap about here) (Subtract seen tail) refl refl) nodes _
-          (linked-tail (s .nd) (toNode seen .0) tail)
-          (calm ReadUnlock seen _ _ (ap about here) (Subtract seen tail) refl refl)
-          (Walking.store-tail (i .queue) (me .0) looks refl (toNode seen .0) (tail .0) (ap (λ p. about p .role) here)),
+      walks-on ReadUnlock seen here refl (Subtract seen tail) refl refl (linked-tail (s .nd) (toNode seen .0) tail)
+          (Walking.store-tail (i .queue) (me .0) refl (same-role here)),
       stood me g here refl _ refl,
     )
 
@@ -176,9 +165,9 @@ module _ (st : Setting) where
     kept-walk-head-downgrade here =
         let is : aboutAt s (me .0) ≡ walking Downgrade seen (head alone (toNode seen .0) (tail .0)) = ap about here in (
           g,
-          goes-on-queue i (me .0) tin (WakePrev Leaver tail) (rw is turned) nodes _
-              (linked-tail (s .nd) (toNode seen .0) tail) (λ x. never refl)
-              (Walking.store-alone (i .queue) (me .0) (toNode seen .0) (tail .0) (ap (λ a. a .role) is)),
+          goes-on-queue st (WakePrev Leaver tail) (rw is turned) (linked-tail (s .nd) (toNode seen .0) tail)
+              (λ x. never refl)
+              (Walking.store-alone (i .queue) (me .0) (same-role here)),
           stood me g here refl _ refl,
         )
       where

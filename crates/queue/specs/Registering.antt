@@ -17,8 +17,8 @@ use Rattle.queue.specs.Tests.{never}
 
 module _ {g : Ghost} {s : St} (v : Inv g s) (t : ℕ) where
   -- a registration that failed
-  pub unready : (first : Bool) (n : ℕ) → s .role t ≡ ready first n → Inv g (turned s t none)
-  unready first n e = turn g s v t none (w .empty) (never refl)
+  pub unready : {first : Bool} {n : ℕ} → s .role t ≡ ready first n → Inv g (turned s t none)
+  unready {first} {n} e = turn g s v t none (w .empty) (never refl)
     where
       w : ReadyAt (takenBy g t) (s .links) (suc t) first n
       w = role-knows v t (ready first n) e
@@ -118,17 +118,17 @@ module _ {g : Ghost} {s : St} (v : Inv g s) (t : ℕ) where
         tl = λ i a b. refl;
       }) (v .queue)
 
-  pub register-first : (n : ℕ) → s .role t ≡ ready true n → g .lo ≡ g .hi
+  pub register-first : {n : ℕ} → s .role t ≡ ready true n → g .lo ≡ g .hi
       → Inv (registered g (suc t)) (moved s t (s .links) (upd (s .wait) (suc t) true) none)
-  register-first n e z =
+  register-first {n} e z =
       let w : ReadyAt (takenBy g t) (s .links) (suc t) true n = role-knows v t (ready true n) e in
       join true n e
       (Queue.first relogged z (rw (upd-same (g .log) (g .hi) (suc t)) (w .pv))
       (rw (upd-same (g .log) (g .hi) (suc t)) (w .tl)))
 
-  pub register-next : (n p : ℕ) → s .role t ≡ ready false n → suc p ≡ g .hi → g .lo ≤ p → g .log p ≡ linkIn n
+  pub register-next : {n : ℕ} (p : ℕ) → s .role t ≡ ready false n → suc p ≡ g .hi → g .lo ≤ p → g .log p ≡ linkIn n
       → Inv (registered g (suc t)) (moved s t (s .links) (upd (s .wait) (suc t) true) none)
-  register-next n p e at some is =
+  register-next {n} p e at some is =
       let w : ReadyAt (takenBy g t) (s .links) (suc t) false n = role-knows v t (ready false n) e in
       join false n e (Queue.grow relogged p (sym at) (omega arith)
       (rw (upd-same (g .log) (g .hi) (suc t), log-below (v .parts) (suc t) p (omega arith))

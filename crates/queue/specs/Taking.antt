@@ -23,9 +23,9 @@ module _ {g : Ghost} {s : St} (v : Inv g s) (t : ℕ) where
   -- ── set aside, commit, restore ──
 
   -- the owner loads the tail's prev: set, it may split (none: it takes all, and knows what it knew)
-  pub load-split : (hd tail : ℕ) → s .role t ≡ head changes hd tail → s .links .pv tail ≢ 0
+  pub load-split : {hd tail : ℕ} → s .role t ≡ head changes hd tail → s .links .pv tail ≢ 0
       → Inv g (turned s t (split hd tail (s .links .pv tail)))
-  load-split hd tail e z = turn g s v t (split hd tail (s .links .pv tail)) (go (eq? (g .lo) (w .h))) (never refl)
+  load-split {hd} {tail} e z = turn g s v t (split hd tail (s .links .pv tail)) (go (eq? (g .lo) (w .h))) (never refl)
     where
       w : HeadAt changes (ticketsOf g) (takenBy g t) (s .links) hd tail
       w = role-knows v t (head changes hd tail) e
@@ -41,8 +41,8 @@ module _ {g : Ghost} {s : St} (v : Inv g s) (t : ℕ) where
           }
 
   -- a split that succeeds moves no link and no ticket
-  pub commit : (hd tail : ℕ) → s .role t ≡ aside hd tail → Inv g (turned s t (store tail 0))
-  commit hd tail e = turn g s v t (store tail 0) it (never refl)
+  pub commit : {hd tail : ℕ} → s .role t ≡ aside hd tail → Inv g (turned s t (store tail 0))
+  commit {hd} {tail} e = turn g s v t (store tail 0) it (never refl)
     where
       w : AsideAt (ticketsOf g) (takenBy g t) (s .links) hd tail
       w = role-knows v t (aside hd tail) e
@@ -59,9 +59,9 @@ module _ {g : Ghost} {s : St} (v : Inv g s) (t : ℕ) where
       }
 
   -- a split that fails is reported the newest node
-  pub fail : (hd tail rp p : ℕ) → s .role t ≡ aside hd tail → suc p ≡ g .hi → g .log p ≡ rp
+  pub fail : {hd tail rp : ℕ} (p : ℕ) → s .role t ≡ aside hd tail → suc p ≡ g .hi → g .log p ≡ rp
       → Inv g (turned s t (undo hd tail rp))
-  fail hd tail rp p e at is =
+  fail {hd} {tail} {rp} p e at is =
       turn g s v t (undo hd tail rp)
       (record { it = w; r = p; isr = is; low = omega (arith, w .top); top = omega arith }) (never refl)
     where
@@ -69,16 +69,15 @@ module _ {g : Ghost} {s : St} (v : Inv g s) (t : ℕ) where
       w = role-knows v t (aside hd tail) e
 
   -- the owner stores prev in its head; tk hd is the head's ticket
-  pub set-aside : (hd tail prev : ℕ) → s .role t ≡ split hd tail prev → Lonely s t
+  pub set-aside : {hd tail prev : ℕ} → s .role t ≡ split hd tail prev → Lonely s t
       → Inv (asided g t (g .tk hd)) (relinked s t (setTl (s .links) hd prev) (aside hd tail))
-  set-aside hd tail prev e lone =
+  set-aside {hd} {tail} {prev} e lone =
       subst (λ z. Inv (asided g t z) (relinked s t (setTl (s .links) hd prev) (aside hd tail)))
       (sym (ap (g .tk) (sym (w .it .ish)) ∙ hj .tk))
       (step v t (asided g t h) (setTl (s .links) hd prev) (s .wait) (aside hd tail)
       (parts-aside (v .parts) t h (omega (arith, w .more, f .top)) (w .it .ground))
       (rw (w .it .ish, w .isp) at (Queue.set-aside (live v t) (v .queue) h f (w .more) (w .it .over)))
-      (rw (upd-same (g .taken) t (oldestSpan g)) it)
-      (never refl)
+      (rw (upd-same (g .taken) t (oldestSpan g)) it) (never refl)
       λ u ne. spared-queue v t (setTl (s .links) hd prev) h 0 hj (rw (w .it .ish) (only-tl (s .links) hd prev))
       (asided g t h) refl u ne (λ z. omega arith) (upd-other (g .taken) t (oldestSpan g) u ne) (never (lone u ne))
       (λ c. never (lone u ne) (changing-on (s .role u) c)) (λ c. never (lone u ne) (changing-on (s .role u) c)))
@@ -109,16 +108,14 @@ module _ {g : Ghost} {s : St} (v : Inv g s) (t : ℕ) where
       }
 
   -- the old head's tail is restored, and the walk goes on from the reported node
-  pub restore : (hd tail rp : ℕ) → s .role t ≡ undo hd tail rp → Lonely s t
+  pub restore : {hd tail rp : ℕ} → s .role t ≡ undo hd tail rp → Lonely s t
       → Inv (restored g t (g .taken t .beg)) (relinked s t (setTl (s .links) hd tail) (walk changes rp rp))
-  restore hd tail rp e lone =
+  restore {hd} {tail} {rp} e lone =
       step v t (restored g t b) (setTl (s .links) hd tail) (s .wait) (walk changes rp rp)
       (parts-restore (v .parts) t b (a .one) refl (a .end))
       (rw (a .ish, a .ist)
       at (Queue.restore (live v t) (v .queue) b (a .one) (omega (arith, a .base, a .top)) (a .nxt) (a .prv)
-      (a .clean)))
-      (rw (upd-same (g .taken) t (emptySpan b)) it)
-      (never refl)
+      (a .clean))) (rw (upd-same (g .taken) t (emptySpan b)) it) (never refl)
       λ u ne. spared-queue v t (setTl (s .links) hd tail) (g .fl) 0 (v .parts .queued (g .fl) (a .base) (a .top))
       (rw (a .ish) (only-tl (s .links) hd tail)) (restored g t b) refl u ne (λ z. omega arith)
       (upd-other (g .taken) t (emptySpan b) u ne) (never (lone u ne))
@@ -168,9 +165,9 @@ module _ {g : Ghost} {s : St} (v : Inv g s) (t : ℕ) where
   }
 
   -- the owner, whose head is the newest, takes all
-  pub take : (hd tail p : ℕ) → s .role t ≡ head changes hd tail → Lonely s t → suc p ≡ g .hi → g .log p ≡ hd
+  pub take : {hd tail : ℕ} (p : ℕ) → s .role t ≡ head changes hd tail → Lonely s t → suc p ≡ g .hi → g .log p ≡ hd
       → Inv (took g t) (turned s t (wake tail))
-  take hd tail p e lone at is =
+  take {hd} {tail} p e lone at is =
       step v t (took g t) (s .links) (s .wait) (wake tail) (parts-take (v .parts) t (w .ground))
       (Queue.empty-queue (g .log) (g .hi) (s .links)) (rw (upd-same (g .taken) t (wholeSpan g)) it) (never refl)
       (spared-take lone)
@@ -198,9 +195,9 @@ module _ {g : Ghost} {s : St} (v : Inv g s) (t : ℕ) where
       }
 
   -- a downgrade takes all, newest first, and walks it alone
-  pub take-alone : (hd p : ℕ) → s .role t ≡ none → Lonely s t → suc p ≡ g .hi → g .lo ≤ p → g .log p ≡ hd
+  pub take-alone : {hd : ℕ} (p : ℕ) → s .role t ≡ none → Lonely s t → suc p ≡ g .hi → g .lo ≤ p → g .log p ≡ hd
       → Inv (took g t) (turned s t (walk alone hd hd))
-  take-alone hd p e lone at some is =
+  take-alone {hd} p e lone at some is =
       step v t (took g t) (s .links) (s .wait) (walk alone hd hd) (parts-take (v .parts) t (role-knows v t none e))
       (Queue.empty-queue (g .log) (g .hi) (s .links)) (rw (upd-same (g .taken) t (wholeSpan g)) it) (never refl)
       (spared-take lone)
@@ -224,8 +221,8 @@ module _ {g : Ghost} {s : St} (v : Inv g s) (t : ℕ) where
 
   -- ── wake ──
 
-  pub load-wake : (cu : ℕ) → s .role t ≡ wake cu → Inv g (turned s t (store cu (s .links .pv cu)))
-  load-wake cu e =
+  pub load-wake : {cu : ℕ} → s .role t ≡ wake cu → Inv g (turned s t (store cu (s .links .pv cu)))
+  load-wake {cu} e =
       turn g s v t (store cu (s .links .pv cu))
       (record {
         some = w .some;
@@ -282,9 +279,9 @@ module _ {g : Ghost} {s : St} (v : Inv g s) (t : ℕ) where
       stays k f (inl z) = rw (z, upd-same (s .wait) cu false)
       stays k f (inr ne) = rw (upd-other (s .wait) cu false k ne) f
 
-  pub complete-more : (cu prev : ℕ) → s .role t ≡ store cu prev → prev ≢ 0
+  pub complete-more : {cu prev : ℕ} → s .role t ≡ store cu prev → prev ≢ 0
       → Inv (completed g t) (moved s t (s .links) (upd (s .wait) cu false) (wake prev))
-  complete-more cu prev e nz = completing cu (w .some) (w .isc) (wake prev) refl (go (w .rest))
+  complete-more {cu} {prev} e nz = completing cu (w .some) (w .isc) (wake prev) refl (go (w .rest))
     where
       w : StoreAt (takenBy g t) (s .links) cu prev
       w = role-knows v t (store cu prev) e
@@ -295,9 +292,9 @@ module _ {g : Ghost} {s : St} (v : Inv g s) (t : ℕ) where
       go (inl z) = absurd (nz (z .1))
       go (inr z) = record { some = z .0; isc = z .1; mine = record { back = w .mine .back; newest = w .mine .newest } }
 
-  pub complete-last : (cu : ℕ) → s .role t ≡ store cu 0
+  pub complete-last : {cu : ℕ} → s .role t ≡ store cu 0
       → Inv (completed g t) (moved s t (s .links) (upd (s .wait) cu false) none)
-  complete-last cu e = completing cu (w .some) (w .isc) none refl (go (w .rest))
+  complete-last {cu} e = completing cu (w .some) (w .isc) none refl (go (w .rest))
     where
       w : StoreAt (takenBy g t) (s .links) cu 0
       w = role-knows v t (store cu 0) e

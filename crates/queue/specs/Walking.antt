@@ -44,9 +44,9 @@ module _ {g : Ghost} {s : St} (v : Inv g s) (t : ℕ) where
       }
       it alone x = absurd (false≢true x)
 
-  pub load-none : (k : WalkKind) (hd cu : ℕ) → s .role t ≡ walk k hd cu → s .links .tl cu ≡ 0
+  pub load-none : {k : WalkKind} {hd cu : ℕ} → s .role t ≡ walk k hd cu → s .links .tl cu ≡ 0
       → Inv g (turned s t (past k hd cu))
-  load-none k hd cu e z = turn g s v t (past k hd cu) (it (pred (w .c)) (omega (arith, up))) (never refl)
+  load-none {k} {hd} {cu} e z = turn g s v t (past k hd cu) (it (pred (w .c)) (omega (arith, up))) (never refl)
     where
       x : Interval
       x = walkedOn k (ticketsOf g) (takenBy g t)
@@ -69,9 +69,9 @@ module _ {g : Ghost} {s : St} (v : Inv g s) (t : ℕ) where
         over = w .over;
       }
 
-  pub load-tail : (k : WalkKind) (hd cu : ℕ) → s .role t ≡ walk k hd cu → s .links .tl cu ≢ 0
+  pub load-tail : {k : WalkKind} {hd cu : ℕ} → s .role t ≡ walk k hd cu → s .links .tl cu ≢ 0
       → Inv g (turned s t (head k hd (s .links .tl cu)))
-  load-tail k hd cu e z = turn g s v t (head k hd (s .links .tl cu)) it (never refl)
+  load-tail {k} {hd} {cu} e z = turn g s v t (head k hd (s .links .tl cu)) it (never refl)
     where
       x : Interval
       x = walkedOn k (ticketsOf g) (takenBy g t)
@@ -92,9 +92,9 @@ module _ {g : Ghost} {s : St} (v : Inv g s) (t : ℕ) where
         over = w .over;
       }
 
-  pub load-next : (k : WalkKind) (hd cu : ℕ) → s .role t ≡ past k hd cu
+  pub load-next : {k : WalkKind} {hd cu : ℕ} → s .role t ≡ past k hd cu
       → Inv g (turned s t (link k hd cu (linkIn (s .links .nx cu))))
-  load-next k hd cu e =
+  load-next {k} {hd} {cu} e =
       turn g s v t (link k hd cu (linkIn (s .links .nx cu))) (record { past = w; isn = it }) (never refl)
     where
       w : PastAt k (ticketsOf g) (takenBy g t) (s .links) hd cu
@@ -107,8 +107,8 @@ module _ {g : Ghost} {s : St} (v : Inv g s) (t : ℕ) where
           ∙ ap (λ z. linkIn (s .links .nx z)) (w .isc)
 
   -- an owner that sees hands off only looks
-  pub ease : (hd cu : ℕ) → s .role t ≡ walk changes hd cu → Inv g (turned s t (walk looks hd cu))
-  ease hd cu e =
+  pub ease : {hd cu : ℕ} → s .role t ≡ walk changes hd cu → Inv g (turned s t (walk looks hd cu))
+  ease {hd} {cu} e =
       turn g s v t (walk looks hd cu)
       (record { h = w .h; c = w .c; ish = w .ish; isc = w .isc; way = w .way; ground = w .ground; over = tt })
       (never refl)
@@ -117,8 +117,8 @@ module _ {g : Ghost} {s : St} (v : Inv g s) (t : ℕ) where
       w = role-knows v t (walk changes hd cu) e
 
   -- who has found the tail may leave it at that
-  pub leave : (k : WalkKind) → public k ≡ true → (hd tail : ℕ) → s .role t ≡ head k hd tail → Inv g (turned s t none)
-  leave k pk hd tail e = turn g s v t none (it k pk (role-knows v t (head k hd tail) e)) (never refl)
+  pub leave : {k : WalkKind} {hd tail : ℕ} → public k ≡ true → s .role t ≡ head k hd tail → Inv g (turned s t none)
+  leave {k} {hd} {tail} pk e = turn g s v t none (it k pk (role-knows v t (head k hd tail) e)) (never refl)
     where
       it : (k : WalkKind) → public k ≡ true → HeadAt k (ticketsOf g) (takenBy g t) (s .links) hd tail
           → g .taken t .end ≤ g .taken t .beg
@@ -174,13 +174,11 @@ module _ {g : Ghost} {s : St} (v : Inv g s) (t : ℕ) where
           let dl : g .lo ≤ d = omega arith in
           let dh : suc d < g .hi = omega arith in
           main dl dh (qt refl) changes (record {
-            h =
-                h;
+            h = h;
             c = d;
             ish = ish;
             isc = refl;
-            way = Queue.walk-pv (live v t) (v .queue) d dl
-                dh h low w;
+            way = Queue.walk-pv (live v t) (v .queue) d dl dh h low w;
             ground = gr;
             over = Queue.clean-pv (live v t) (v .queue) d dl dh h (omega arith) ov;
           })
@@ -207,9 +205,9 @@ module _ {g : Ghost} {s : St} (v : Inv g s) (t : ℕ) where
           (never refl)
           (spared-own v t (setPv (s .links) (g .log d) (g .log (suc d))) d (suc t) hd′ on′ refl)
 
-  pub store-prev : (k : WalkKind) (hd cu nn : ℕ) → s .role t ≡ link k hd cu nn → (public k ≡ true → Quiet s t)
+  pub store-prev : {k : WalkKind} {hd cu nn : ℕ} → s .role t ≡ link k hd cu nn → (public k ≡ true → Quiet s t)
       → Inv g (relinked s t (setPv (s .links) nn cu) (walk k hd nn))
-  store-prev k hd cu nn e qt =
+  store-prev {k} {hd} {cu} {nn} e qt =
       subst₂ (λ n c. Inv g (relinked s t (setPv (s .links) n c) (walk k hd n))) (log-on k (w .past .d) ∙ w .isn)
       (log-on k (suc (w .past .d)) ∙ w .past .isc)
       (prev-on k hd (w .past .h) (w .past .d) (w .past .ish) (w .past .low) (w .past .way) (w .past .ground)
@@ -237,9 +235,9 @@ module _ {g : Ghost} {s : St} (v : Inv g s) (t : ℕ) where
       (λ _ i x c j y o. rw el (c j y o))
       (λ _. rw el refl)
 
-  pub store-tail : (k : WalkKind) → public k ≡ true → (hd tail : ℕ) → s .role t ≡ head k hd tail
+  pub store-tail : {k : WalkKind} {hd tail : ℕ} → public k ≡ true → s .role t ≡ head k hd tail
       → Inv g (relinked s t (setTl (s .links) hd tail) (head k hd tail))
-  store-tail k pk hd tail e = go k pk (role-knows v t (head k hd tail) e)
+  store-tail {k} {hd} {tail} pk e = go k pk (role-knows v t (head k hd tail) e)
     where
       go : (k : WalkKind) → public k ≡ true → HeadAt k (ticketsOf g) (takenBy g t) (s .links) hd tail
           → Inv g (relinked s t (setTl (s .links) hd tail) (head k hd tail))
@@ -270,9 +268,9 @@ module _ {g : Ghost} {s : St} (v : Inv g s) (t : ℕ) where
       go alone x w = absurd (false≢true x)
 
   -- the downgrade's walk ends: it has its list, oldest first
-  pub store-alone : (hd tail : ℕ) → s .role t ≡ head alone hd tail
+  pub store-alone : {hd tail : ℕ} → s .role t ≡ head alone hd tail
       → Inv g (relinked s t (setTl (s .links) hd tail) (wake tail))
-  store-alone hd tail e =
+  store-alone {hd} {tail} e =
       let f : Full (takenBy g t) (s .links) (w .h) = w .way in
       let hj : Held g (s .wait) (suc t) (w .h) = v .parts .held t (w .h) (omega arith) (omega arith) .1 in
       let on′ : Only (s .links) (setTl (s .links) hd tail) (g .log (w .h)) = rw (w .ish) (only-tl (s .links) hd tail) in
@@ -294,9 +292,9 @@ module _ {g : Ghost} {s : St} (v : Inv g s) (t : ℕ) where
       w = role-knows v t (head alone hd tail) e
 
   -- a contended reader subtracts: the oldest's next is nobody's link
-  pub subtract : (hd tail n : ℕ) → s .role t ≡ head looks hd tail → Quiet s t
+  pub subtract : {hd tail : ℕ} (n : ℕ) → s .role t ≡ head looks hd tail → Quiet s t
       → Inv g (relinked s t (setNx (s .links) tail n) none)
-  subtract hd tail n e qt =
+  subtract {hd} {tail} n e qt =
       let f : Full (ticketsOf g) (s .links) (w .h) = w .way in
       let hj : Held g (s .wait) 0 (g .lo) = v .parts .queued (g .lo) (omega arith) (omega arith) in
       subst (λ x. Inv g (relinked s t (setNx (s .links) x n) none)) (w .ist)
