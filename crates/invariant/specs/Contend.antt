@@ -1,6 +1,7 @@
--- lock_contended until the node is registered: load and compare by the lock rule, reload, fill the node. Each place's rule keeps the invariant.
--- Not here: the compare that registers (Register). Assumes nothing.
-use Prim.Native.Nat.{ℕ, suc, _+_, _<_}
+-- lock_contended until the node is registered: load and compare by the lock rule, reload, fill the node. Each place's
+-- rule keeps the invariant. Not here: the compare that registers (Register).
+-- Assumes nothing.
+use Prim.Native.Nat.{ℕ, suc, _+_}
 use mathlib.Core.Bool.{Bool, true, false, not}
 use mathlib.Core.Logic.{_≢_}
 use mathlib.Core.Path.{_≡_, refl, sym, ap, _∙_, subst}
@@ -19,35 +20,38 @@ use Rattle.word.specs.declared.rules.WriteLocked.{WriteLocked}
 use Rattle.word.specs.declared.rules.WriteLocked.the-variants.{To as WriteTo, Refused as WriteRefused}
 use Rattle.state.specs.Holding.{grantedRead, grantedWrite}
 use Rattle.state.specs.Node.{filledOf}
-use Rattle.state.specs.View.{at, agreesOf, stays}
+use Rattle.state.specs.View.{at, stays}
 use Rattle.state.specs.declared.machine.Thread.{Thread}
 use Rattle.state.specs.declared.node.Node.{Node}
 use Rattle.state.specs.declared.place.Place.{Place}
 use Rattle.state.specs.declared.place.Place.the-variants.{Idle, ContendLoad, ContendCas, RegisterCas}
-use Rattle.state.specs.declared.view.Mark.{Mark}
-use Rattle.acquire.specs.LockContended.{spinCount, byRead, byWrite, permittedOf, grantedOf, fillOf, contendBy, contendJudged, contendLoadOf, contendCasBy, contendCasOf}
+use Rattle.acquire.specs.LockContended.{spinCount, byRead, byWrite, permittedOf, grantedOf, fillOf, contendBy}
+use Rattle.acquire.specs.LockContended.{contendJudged, contendLoadOf, contendCasBy, contendCasOf}
 use Rattle.acquire.specs.declared.lock_contended.Permitted.{Permitted}
 use Rattle.acquire.specs.declared.lock_contended.Permitted.the-variants.{To, Refused}
 use Rattle.lock.specs.Effect.{elsewhere, standOf}
 use Rattle.queue.specs.Tests.{never}
 use Rattle.queue.specs.Updates.{upd, upd-same, upd-other, map-upd}
-use Rattle.queue.specs.Tickets.{Ghost, waiting}
+use Rattle.queue.specs.Tickets.{waiting-apart}
 use Rattle.queue.specs.Roles.{none, ready}
 use Rattle.queue.specs.Invariant as Q
 use Rattle.queue.specs.Registering
-use Rattle.invariant.specs.Table.{off, free, about, Lock, aboutAt, linksOf, waitOf, roleOf, Free, leaver}
-use Rattle.invariant.specs.Invariant.{readers, writers, leavers, Unqueued, empty, written, read, Real, Newest, queueOf, Inv}
-use Rattle.invariant.specs.Frames.{moved, waits-as, view, stay}
-use Rattle.invariant.specs.Moves.{isAside}
-use Rattle.invariant.specs.Moves.{Went, still, stood, contend-elsewhere}
-use Rattle.invariant.specs.Kept.{lookAt, Kept, kept-still, placed, Goes}
-use Rattle.invariant.specs.Off.{is-off, Down, off-down, hop, finish}
-use Rattle.invariant.specs.Ends.{ended-read, ended-written}
-use Rattle.invariant.specs.Words.{agreed, word-is, readers-word}
+use Rattle.invariant.specs.Table.{offQueue, free, about, aboutAt, linksOf, waitOf, roleOf, Free, leaver}
+use Rattle.invariant.specs.Invariant.{readers, writers, leavers, Unqueued, empty, written, read, Real, Newest}
+use Rattle.invariant.specs.Invariant.{queueOf, Inv}
+use Rattle.invariant.specs.Frames.{waits-as, stay, viewed}
+use Rattle.invariant.specs.Moves.{isAside, Went, movesNoTicket, stood, contend-elsewhere}
+use Rattle.invariant.specs.Kept.{lookAt, Kept, kept-still, placed, Goes, Setting, mine, kept-stood, movedTo}
+use Rattle.invariant.specs.Kept.{became, kept-compare}
+use Rattle.invariant.specs.OffQueue.{off-queue, RoleDown, role-down, goes-off-queue, ends-call}
+use Rattle.invariant.specs.CallEnds.{ended-read, ended-written}
+use Rattle.invariant.specs.Words.{word-is, readers-word}
 
 -- the lock rule refuses an unqueued word of the lock only where LOCKED is set
-refused-locked : (writer : Bool) (w : Word) (r v l : ℕ) → Unqueued w r v l → permittedOf writer w ≡ Refused → locked w ≡ true
-refused-locked writer w r v l (empty z h) e = absurd (go writer (subst (λ x. permittedOf writer x ≡ Refused) (word-is w 0 z) e))
+refused-locked : (writer : Bool) (w : Word) (r v l : ℕ) → Unqueued w r v l → permittedOf writer w ≡ Refused
+    → locked w ≡ true
+refused-locked writer w r v l (empty z h) e =
+    absurd (go writer (subst (λ x. permittedOf writer x ≡ Refused) (word-is w 0 z) e))
   where
     go : (writer : Bool) → permittedOf writer (word 0) ≡ Refused → ⊥
     go true e = let z : _≡_ {A = ℕ} 0 1 = cc in omega arith
@@ -56,39 +60,54 @@ refused-locked writer w r v l (written z h) e = readers-word w 0 z .locked
 refused-locked writer w r v l (read z some h) e = readers-word w r z .locked
 
 -- a thread that contends, its role put down
-pub record Contends (s : Lock) (g : Ghost) (me : ThreadNumber) : Type 0 where
-  pub down : Down s g (me .0)
-  pub free : Free (s .th (me .0) .holding)
-  pub leaves : leaver (s .th (me .0)) ≡ 0
-  pub unmoved : (p : Place) → standOf p ≡ elsewhere → isAside p ≡ false → Went me (s .th (me .0) .place) g p g
+pub record Contends (st : Setting) : Type 0 where
+  pub down : RoleDown (st .s) (st .g) (st .me .0)
+  pub free : Free (mine st .holding)
+  pub leaves : leaver (mine st) ≡ 0
+  pub unmoved : (p : Place) → standOf p ≡ elsewhere → isAside p ≡ false
+      → Went (st .me) (mine st .place) (st .g) p (st .g)
 
 -- the fill, to the links
 fill-links : (nd : ℕ → Node) (me : ThreadNumber) (writer : Bool) (w : Word)
-    → linksOf (upd nd (suc (me .0)) (filledOf me writer w)) ≡ Q.fillLinks (linksOf nd) (suc (me .0)) (not (queued w)) (withoutFlags w .0)
+    → linksOf (upd nd (suc (me .0)) (filledOf me writer w))
+    ≡ Q.fillLinks (linksOf nd) (suc (me .0)) (not (queued w)) (withoutFlags w .0)
 fill-links nd me writer w = (λ j. record {
   nx = map-upd (λ y. y .next .0) nd (suc (me .0)) (filledOf me writer w) j;
   pv = map-upd (λ y. y .prev .0) nd (suc (me .0)) (filledOf me writer w) j;
   tl = map-upd (λ y. y .tail .0) nd (suc (me .0)) (filledOf me writer w) j;
-}) ∙ ap (λ z. record { nx = upd (λ k. nd k .next .0) (suc (me .0)) (withoutFlags w .0); pv = upd (λ k. nd k .prev .0) (suc (me .0)) 0; tl = upd (λ k. nd k .tail .0) (suc (me .0)) z }) (own (queued w))
+}) ∙ ap (λ z. record {
+  nx = upd (λ k. nd k .next .0) (suc (me .0)) (withoutFlags w .0);
+  pv = upd (λ k. nd k .prev .0) (suc (me .0)) 0;
+  tl = upd (λ k. nd k .tail .0) (suc (me .0)) z;
+}) (own (queued w))
   where
     own : (b : Bool) → pick b noNode (nodeOf me) .0 ≡ pick (not b) (suc (me .0)) 0
     own true = refl
     own false = omega arith
 
-module _ (n : ℕ) (s : Lock) (g : Ghost) (i : Inv n s g) (me : ThreadNumber) (tin : me .0 < n) (mark : Mark) (fails : Bool) (c : Contends s g me) where
+module _ (st : Setting) (c : Contends st) where
+  open Setting st using (n, s, g, i, me, tin)
+
   unregistered : waitOf (s .th) (s .nd) (suc (me .0)) ≡ false
   unregistered = rw (c .down .registered)
 
-  pub fill : (writer : Bool) (reloads : ℕ) → pick (queued (s .word)) true (locked (s .word)) ≡ true
-      → Kept n s g me (suc (me .0)) (fillOf (lookAt s me (suc (me .0)) mark fails) writer reloads (s .word))
-  fill writer reloads fits = (
+  pub kept-fill : (writer : Bool) (reloads : ℕ) → pick (queued (s .word)) true (locked (s .word)) ≡ true
+      → Kept st (suc (me .0)) (fillOf (lookAt st (suc (me .0))) writer reloads (s .word))
+  kept-fill writer reloads fits = (
     g,
     stay n s g (me .0) x nd′ i (record {
-      queue = subst (λ z. Q.Inv g z) (sym (view s (me .0) x nd′ (s .word) (Q.fillLinks (linksOf (s .nd)) (suc (me .0)) (not (queued (s .word))) (withoutFlags (s .word) .0)) (waitOf (s .th) (s .nd)) (fill-links (s .nd) me writer (s .word)) same)) filled;
+      queue =
+          viewed s (me .0) x nd′ (s .word)
+          (Q.fillLinks (linksOf (s .nd)) (suc (me .0)) (not (queued (s .word))) (withoutFlags (s .word) .0))
+          (waitOf (s .th) (s .nd)) (fill-links (s .nd) me writer (s .word)) same filled;
       inside = tin;
       holding = refl;
-      completed = λ u ne. ap (λ y. y .completed) (upd-other (s .nd) (suc (me .0)) (filledOf me writer (s .word)) (suc u) (λ z. ne (omega arith)));
-      next = λ r. ap (λ y. y .next) (upd-other (s .nd) (suc (me .0)) (filledOf me writer (s .word)) (g .log (g .lo)) (off-own r));
+      completed =
+          λ u ne. ap (λ y. y .completed)
+          (upd-other (s .nd) (suc (me .0)) (filledOf me writer (s .word)) (suc u) (λ z. ne (omega arith)));
+      next =
+          λ r. ap (λ y. y .next)
+          (upd-other (s .nd) (suc (me .0)) (filledOf me writer (s .word)) (g .log (g .lo)) (off-own r));
       owner = sym (c .down .owner);
       leaving = sym (c .leaves);
       may = c .free;
@@ -105,7 +124,7 @@ module _ (n : ℕ) (s : Lock) (g : Ghost) (i : Inv n s g) (me : ThreadNumber) (t
   )
     where
       x : Thread
-      x = placed (s .th (me .0)) (RegisterCas writer reloads (s .word))
+      x = placed (mine st) (RegisterCas writer reloads (s .word))
 
       nd′ : ℕ → Node
       nd′ = upd (s .nd) (suc (me .0)) (filledOf me writer (s .word))
@@ -113,80 +132,114 @@ module _ (n : ℕ) (s : Lock) (g : Ghost) (i : Inv n s g) (me : ThreadNumber) (t
       same : waitOf (upd (s .th) (me .0) x) nd′ ≡ waitOf (s .th) (s .nd)
       same =
           waits-as s (me .0) x nd′ (waitOf (s .th) (s .nd)) refl (sym unregistered)
-          (λ u ne. ap (λ y. pick (aboutAt s u .registered) (not (y .completed)) false) (upd-other (s .nd) (suc (me .0)) (filledOf me writer (s .word)) (suc u) (λ z. ne (omega arith))))
+          (λ u ne. ap (λ y. pick (aboutAt s u .registered) (not (y .completed)) false)
+          (upd-other (s .nd) (suc (me .0)) (filledOf me writer (s .word)) (suc u) (λ z. ne (omega arith))))
 
-      filled : Q.Inv g (Q.moved (queueOf s) (me .0) (Q.fillLinks (linksOf (s .nd)) (suc (me .0)) (not (queued (s .word))) (withoutFlags (s .word) .0)) (waitOf (s .th) (s .nd)) (ready (not (queued (s .word))) (withoutFlags (s .word) .0)))
-      filled = rw Q.moved-twice at (Registering.fill g (Q.moved (queueOf s) (me .0) (linksOf (s .nd)) (waitOf (s .th) (s .nd)) none) (c .down .role) (me .0) (not (queued (s .word))) (withoutFlags (s .word) .0) (upd-same (roleOf (s .th)) (me .0) none) unregistered)
+      filled : Q.Inv g
+          (Q.relinked (queueOf s) (me .0)
+          (Q.fillLinks (linksOf (s .nd)) (suc (me .0)) (not (queued (s .word))) (withoutFlags (s .word) .0))
+          (ready (not (queued (s .word))) (withoutFlags (s .word) .0)))
+      filled =
+          rw Q.moved-twice
+          at (Registering.fill (c .down .role) (me .0) (not (queued (s .word))) (withoutFlags (s .word) .0)
+          (upd-same (roleOf (s .th)) (me .0) none) unregistered)
 
       -- the oldest waits, and the thread's own node does not
       off-own : Real n s → g .log (g .lo) ≢ suc (me .0)
-      off-own r = let v : Newest g (s .word) = i .newest (r .queue) in waiting g (waitOf (s .th) (s .nd)) (i .queue .parts) (g .lo) 0 (suc (me .0)) (i .queue .parts .queued (g .lo) (omega arith) (omega arith)) unregistered
+      off-own r =
+          let v : Newest g (s .word) = i .newest (r .queue) in
+          waiting-apart (i .queue .parts) (g .lo) 0 (suc (me .0))
+          (i .queue .parts .queued (g .lo) (omega arith) (omega arith)) unregistered
 
   -- the lock rule grants
-  pub grant : (writer : Bool) (to : Word) → permittedOf writer (s .word) ≡ To to
-      → Inv n (moved s (me .0) to (record { place = Idle; token = s .th (me .0) .token; holding = grantedOf writer (s .th (me .0) .holding) }) (s .nd)) g
-  grant true to e = by (writeLockOf (s .word)) refl e
+  pub kept-grant : (writer : Bool) (to : Word) → permittedOf writer (s .word) ≡ To to
+      → Inv n (movedTo st to (became (mine st) Idle (grantedOf writer (mine st .holding)))) g
+  kept-grant true to e = by (writeLockOf (s .word)) refl e
     where
       unlocked : (x : Word) → writeLockOf (s .word) ≡ WriteTo x → (locked (s .word) ≡ false) × (setLocked (s .word) ≡ x)
-      unlocked x f = let y = pick-second (locked (s .word)) WriteRefused (WriteTo (setLocked (s .word))) (WriteTo x) (λ z. let bad : _≡_ {A = ℕ} 0 1 = cc in omega arith) f in (y .0, cc (y .1))
+      unlocked x f =
+          let y = pick-second (locked (s .word)) WriteRefused (WriteTo (setLocked (s .word))) (WriteTo x)
+          (λ z. let bad : _≡_ {A = ℕ} 0 1 = cc in omega arith) f in (y .0, cc (y .1))
 
       by : (r : WriteLocked) → writeLockOf (s .word) ≡ r → byWrite r ≡ To to
-          → Inv n (moved s (me .0) to (record { place = Idle; token = s .th (me .0) .token; holding = grantedWrite (s .th (me .0) .holding) }) (s .nd)) g
+          → Inv n (movedTo st to (became (mine st) Idle (grantedWrite (mine st .holding)))) g
       by (WriteTo x) f z =
           let is : setLocked (s .word) ≡ to = unlocked x f .1 ∙ cc z in
-          subst (λ w. Inv n (moved s (me .0) w (record { place = Idle; token = s .th (me .0) .token; holding = grantedWrite (s .th (me .0) .holding) }) (s .nd)) g) is
-          (finish n s g i (me .0) tin (c .down) (setLocked (s .word)) _ (ended-written n s g i (me .0) tin (c .down) (c .free) (c .leaves) (unlocked x f .0)))
+          subst (λ w. Inv n
+          (movedTo st w (became (mine st) Idle (grantedWrite (mine st .holding)))) g)
+          is
+          (ends-call i (me .0) tin (c .down) (setLocked (s .word)) _
+          (ended-written i (me .0) tin (c .down) (c .free) (c .leaves) (unlocked x f .0)))
       by WriteRefused f z = absurd (let bad : _≡_ {A = ℕ} 0 1 = cc in omega arith)
-  grant false to e = by (readLockOf (s .word)) refl e
+  kept-grant false to e = by (readLockOf (s .word)) refl e
     where
       by : (r : ReadLocked) → readLockOf (s .word) ≡ r → byRead r ≡ To to
-          → Inv n (moved s (me .0) to (record { place = Idle; token = s .th (me .0) .token; holding = grantedRead (s .th (me .0) .holding) }) (s .nd)) g
+          → Inv n (movedTo st to (became (mine st) Idle (grantedRead (mine st .holding)))) g
       by (ReadTo x) f z =
           let is : x ≡ to = cc z in
-          finish n s g i (me .0) tin (c .down) to _ (ended-read n s g i (me .0) tin (c .down) (c .free) (c .leaves) to (f ∙ ap ReadTo is))
+          ends-call i (me .0) tin (c .down) to _
+          (ended-read i (me .0) tin (c .down) (c .free) (c .leaves) to (f ∙ ap ReadTo is))
       by ReadRefused f z = absurd (let bad : _≡_ {A = ℕ} 0 1 = cc in omega arith)
 
   module _ (writer : Bool) (reloads : ℕ) where
-    on-to : (q : Place) → about q ≡ off free false false true → standOf q ≡ elsewhere → isAside q ≡ false
-        → Kept n s g me (suc (me .0)) (stays (lookAt s me (suc (me .0)) mark fails) (at q))
+    on-to : (q : Place) → about q ≡ offQueue free false false true → standOf q ≡ elsewhere → isAside q ≡ false
+        → Kept st (suc (me .0)) (stays (lookAt st (suc (me .0))) (at q))
     on-to q told away near =
-        kept-still n s g me (suc (me .0)) _ _ g (c .unmoved q away near)
-        (hop n s g i (me .0) tin (c .down) q (rw told (is-off _ _ _ _)) (rw told (c .free)) (rw told (never refl)) (rw told (sym (c .leaves))) (λ _. rw told))
+        kept-still st (suc (me .0)) _ _ g (c .unmoved q away near)
+        (goes-off-queue i (me .0) tin (c .down) q (rw told (off-queue _ _ _ _)) (rw told (c .free))
+        (rw told (never refl)) (rw told (sym (c .leaves))) (λ _. rw told))
 
-    pub contend : Kept n s g me (suc (me .0)) (contendJudged (lookAt s me (suc (me .0)) mark fails) writer reloads (s .word))
-    contend = by (permittedOf writer (s .word)) refl
+    pub kept-contend : Kept st (suc (me .0)) (contendJudged (lookAt st (suc (me .0))) writer reloads (s .word))
+    kept-contend = by (permittedOf writer (s .word)) refl
       where
         fill-bare : permittedOf writer (s .word) ≡ Refused → queued (s .word) ≡ false
-            → Kept n s g me (suc (me .0)) (fillOf (lookAt s me (suc (me .0)) mark fails) writer reloads (s .word))
-        fill-bare e q = fill writer reloads (rw q (refused-locked writer (s .word) (readers n s) (writers n s) (leavers n s) (i .count .bare q) e))
+            → Kept st (suc (me .0)) (fillOf (lookAt st (suc (me .0))) writer reloads (s .word))
+        fill-bare e q =
+            kept-fill writer reloads
+            (rw q (refused-locked writer (s .word) (readers n s) (writers n s) (leavers n s) (i .count .bare q) e))
 
         by : (r : Permitted) → permittedOf writer (s .word) ≡ r
-            → Kept n s g me (suc (me .0)) (contendBy (lookAt s me (suc (me .0)) mark fails) writer reloads (s .word) r)
-        by (To to) e = on-to (ContendCas writer reloads (s .word)) refl (contend-elsewhere writer reloads (s .word) .1) refl
-        by Refused e = pick-both (Kept n s g me (suc (me .0))) (queued (s .word)) _ _
-            (λ q. fill writer reloads (rw q))
-            (λ q. pick-both (Kept n s g me (suc (me .0))) (ltb reloads spinCount) _ _ (λ _. on-to (ContendLoad writer (reloads + 1)) refl (contend-elsewhere writer (reloads + 1) (s .word) .0) refl) (λ _. fill-bare e q))
+            → Kept st (suc (me .0)) (contendBy (lookAt st (suc (me .0))) writer reloads (s .word) r)
+        by (To to) e =
+            on-to (ContendCas writer reloads (s .word)) refl (contend-elsewhere writer reloads (s .word) .1) refl
+        by Refused e = pick-both (Kept st (suc (me .0))) (queued (s .word)) _ _
+            (λ q. kept-fill writer reloads (rw q))
+            (λ q. pick-both (Kept st (suc (me .0))) (ltb reloads spinCount) _ _
+            (λ _. on-to (ContendLoad writer (reloads + 1)) refl
+            (contend-elsewhere writer (reloads + 1) (s .word) .0) refl) (λ _. fill-bare e q))
 
-module _ (n : ℕ) (s : Lock) (g : Ghost) (i : Inv n s g) (me : ThreadNumber) (tin : me .0 < n) (mark : Mark) (fails : Bool) where
-  contends-off : (p : Place) → s .th (me .0) .place ≡ p → about p ≡ off free false false true → still p ≡ true → Contends s g me
+module _ (st : Setting) where
+  open Setting st using (n, s, g, i, me, tin)
+
+  contends-off : (p : Place) → mine st .place ≡ p → about p ≡ offQueue free false false true
+      → movesNoTicket p ≡ true → Contends st
   contends-off p here told unmoved =
-      let e : aboutAt s (me .0) ≡ off free false false true = ap about here ∙ told in
-      record { down = off-down n s g i (me .0) (rw e (is-off _ _ _ _)); free = rw e at (i .holding (me .0)); leaves = rw e; unmoved = λ q _ near. stood me g _ p here unmoved q near }
+      let e : aboutAt s (me .0) ≡ offQueue free false false true = ap about here ∙ told in
+      record {
+        down = role-down i (me .0) (rw e (off-queue _ _ _ _));
+        free = rw e at (i .holding (me .0));
+        leaves = rw e;
+        unmoved = λ q _ near. stood me g here unmoved q near;
+      }
 
-  pub kept-contend-load : (writer : Bool) (reloads : ℕ) → s .th (me .0) .place ≡ ContendLoad writer reloads
-      → Goes n s g me mark fails (suc (me .0)) (λ v. contendLoadOf v writer reloads)
-  kept-contend-load writer reloads here = contend n s g i me tin mark fails (contends-off (ContendLoad writer reloads) here refl refl) writer reloads
+  pub kept-contend-load : (writer : Bool) (reloads : ℕ) → mine st .place ≡ ContendLoad writer reloads
+      → Goes st (suc (me .0)) (λ v. contendLoadOf v writer reloads)
+  kept-contend-load writer reloads here =
+      kept-contend st (contends-off (ContendLoad writer reloads) here refl refl) writer reloads
 
-  pub kept-contend-cas : (writer : Bool) (reloads : ℕ) (seen : Word) → s .th (me .0) .place ≡ ContendCas writer reloads seen
-      → Goes n s g me mark fails (suc (me .0)) (λ v. contendCasOf v writer reloads seen)
-  kept-contend-cas writer reloads seen here = pick-both (Kept n s g me (suc (me .0))) (agreesOf (lookAt s me (suc (me .0)) mark fails) seen) _ _ (λ e. by (permittedOf writer seen) (ap (permittedOf writer) (agreed (lookAt s me (suc (me .0)) mark fails) seen e))) (λ _. again)
+  pub kept-contend-cas : (writer : Bool) (reloads : ℕ) (seen : Word) → mine st .place ≡ ContendCas writer reloads seen
+      → Goes st (suc (me .0)) (λ v. contendCasOf v writer reloads seen)
+  kept-contend-cas writer reloads seen here = kept-compare st (suc (me .0)) seen _ _
+      (λ same. by (permittedOf writer seen) (ap (permittedOf writer) same))
+      again
     where
-      c : Contends s g me
+      c : Contends st
       c = contends-off (ContendCas writer reloads seen) here refl refl
 
-      again : Kept n s g me (suc (me .0)) (contendJudged (lookAt s me (suc (me .0)) mark fails) writer reloads (s .word))
-      again = contend n s g i me tin mark fails c writer reloads
+      again : Kept st (suc (me .0)) (contendJudged (lookAt st (suc (me .0))) writer reloads (s .word))
+      again = kept-contend st c writer reloads
 
-      by : (r : Permitted) → permittedOf writer (s .word) ≡ r → Kept n s g me (suc (me .0)) (contendCasBy (lookAt s me (suc (me .0)) mark fails) writer reloads r)
-      by (To to) e = kept-still n s g me (suc (me .0)) _ _ g (stood me g _ (ContendCas writer reloads seen) here refl _ refl) (grant n s g i me tin mark fails c writer to e)
+      by : (r : Permitted) → permittedOf writer (s .word) ≡ r
+          → Kept st (suc (me .0)) (contendCasBy (lookAt st (suc (me .0))) writer reloads r)
+      by (To to) e = kept-stood st (suc (me .0)) here refl _ _ refl (kept-grant st c writer to e)
       by Refused e = again

@@ -1,4 +1,5 @@
--- A fresh machine has the invariant: nobody waits, nothing is held. Assumes nothing.
+-- A fresh machine has the invariant: nobody waits, nothing is held.
+-- Assumes nothing.
 use Prim.Native.Nat.{ℕ, zero, suc}
 use mathlib.Core.Bool.{false}
 use mathlib.Core.Path.{_≡_, refl}
@@ -57,7 +58,7 @@ inv-fresh n = record {
         held = λ t i a b. absurd (omega arith);
         cover = λ k e. never (nobody-waits k) e;
       };
-      queue = Q.inv-fresh (linksOf (freshLock .nd)) .queue;
+      queue = Q.queue-fresh (linksOf (freshLock .nd)) .queue;
       know = λ t. omega arith;
       free = λ t. never refl;
     }

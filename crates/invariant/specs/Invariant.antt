@@ -1,5 +1,6 @@
--- The invariant of the lock, over its machine as functions and a ghost of tickets: to be proved of every reachable machine, not believed.
--- The queue's part is crate queue's; here the word against holders and owner, and the tokens. In this order: holders against the word; the invariant.
+-- The invariant of the lock, over its machine as functions and a ghost of tickets: to be proved of every reachable
+-- machine, not believed. The queue's part is crate queue's; here the word against holders and owner, and the tokens.
+-- In this order: holders against the word; the invariant.
 -- Assumes nothing.
 use Prim.Native.Nat.{ℕ, suc, _+_, _*_, _≤_, _<_}
 use mathlib.Core.Bool.{true, false}
@@ -80,7 +81,8 @@ pub record Inv (n : ℕ) (s : Lock) (g : Ghost) : Type 0 where
   pub newest : queued (s .word) ≡ true → Newest g (s .word)
   pub nobody : queued (s .word) ≡ false → g .lo ≡ g .hi
   -- the word's shape
-  pub handed : queued (s .word) ≡ true → downgraded (s .word) ≡ true → (queueLocked (s .word) ≡ true) × (locked (s .word) ≡ true)
+  pub handed : queued (s .word) ≡ true → downgraded (s .word) ≡ true
+      → (queueLocked (s .word) ≡ true) × (locked (s .word) ≡ true)
   pub bare : queued (s .word) ≡ false → (queueLocked (s .word) ≡ false) × (downgraded (s .word) ≡ false)
   -- one queue owner if QUEUE_LOCKED is set, else none
   pub owners : sum n (λ t. weight (aboutAt s t .owner)) ≡ weight (queueLocked (s .word))
@@ -89,7 +91,8 @@ pub record Inv (n : ℕ) (s : Lock) (g : Ghost) : Type 0 where
   pub outside : (t : ℕ) → n ≤ t → s .th t .place ≡ Idle
   pub unheld : (t : ℕ) → n ≤ t → Free (s .th t .holding)
   pub count : Count (s .word) (readers n s) (writers n s) (leavers n s)
-  -- who is about to release or to downgrade slowly needs the queue to stay; while a contended reader walks, no downgrade is pending
+  -- who is about to release or to downgrade slowly needs the queue to stay; while a contended reader walks, no
+  -- downgrade is pending
   pub needs : (t : ℕ) → aboutAt s t .needsQueue ≡ true → queued (s .word) ≡ true
   pub plain : (t : ℕ) → aboutAt s t .reader ≡ true → downgraded (s .word) ≡ false
   -- under real readers the oldest waiter's next is their count, and no owner changes the queue
@@ -102,4 +105,5 @@ pub record Inv (n : ℕ) (s : Lock) (g : Ghost) : Type 0 where
   -- the tokens: who is asleep and completed has one
   pub token : (t : ℕ) → aboutAt s t .asleep ≡ true → s .nd (suc t) .completed ≡ true → s .th t .token ≡ true
   -- a queue that nobody holds and nobody owns has somebody who sees to it
-  pub seen-to : queued (s .word) ≡ true → locked (s .word) ≡ false → queueLocked (s .word) ≡ false → (t : ℕ) × Responsible s g t
+  pub seen-to : queued (s .word) ≡ true → locked (s .word) ≡ false → queueLocked (s .word) ≡ false
+      → (t : ℕ) × Responsible s g t

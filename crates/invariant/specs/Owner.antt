@@ -1,79 +1,65 @@
--- unlock_queue after its walk, until something is taken off: the compare that clears QUEUE_LOCKED, the split and its restore. Each place's rule keeps
--- the invariant. Not here: the compare to 17 or 0 (Take). Assumes nothing.
+-- unlock_queue after its walk, until something is taken off: the compare that clears QUEUE_LOCKED, the split and its
+-- restore. Each place's rule keeps the invariant. Not here: the compare to 17 or 0 (Take).
+-- Assumes nothing.
 use Prim.Native.Nat.{ℕ, suc, _+_, _<_}
 use mathlib.Core.Bool.{Bool, true, false, not}
 use mathlib.Core.Path.{_≡_, refl, sym, ap, _∙_, subst}
 use native.Mathlib.Omega.{arith}
 use Rattle.word.specs.Base.{pick}
-use Rattle.word.specs.Cases.{pick-both}
-use Rattle.word.specs.Flags.{LOCKED, QUEUED, QUEUE-LOCKED, DOWNGRADED, locked, queued, downgraded, clearQueueLocked, toNode}
+use Rattle.word.specs.Flags.{LOCKED, QUEUED, QUEUE-LOCKED, DOWNGRADED, locked, queued, downgraded, clearQueueLocked}
+use Rattle.word.specs.Flags.{toNode}
 use Rattle.word.specs.Laws.{clear-has, clear-keeps, clear-node}
 use Rattle.word.specs.declared.flags.Word.{Word}
-use Rattle.word.specs.declared.number.ThreadNumber.{ThreadNumber}
 use Rattle.state.specs.Holding.{readsOf, writesOf}
-use Rattle.state.specs.View.{at, agreesOf, afterQueue, writes}
-use Rattle.state.specs.declared.holding.Holding.{Holding}
+use Rattle.state.specs.View.{at, afterQueue, writes}
 use Rattle.state.specs.declared.place.Place.{Place}
 use Rattle.state.specs.declared.place.Place.the-variants.{Idle, CompletedLoad, WalkTail, QueueCas}
 use Rattle.state.specs.declared.place.Walk.the-variants.{Queue}
 use Rattle.state.specs.declared.place.Who.{Who}
 use Rattle.state.specs.declared.place.Who.the-variants.{Waiter, Leaver}
-use Rattle.state.specs.declared.view.Mark.{Mark}
 use Rattle.unlock.specs.UnlockQueue.{queueCasOf}
 use Rattle.queue.specs.Tests.{never, not-false}
-use Rattle.queue.specs.Updates.{upd, upd-same}
-use Rattle.queue.specs.Tickets.{Ghost}
-use Rattle.queue.specs.Roles.{Role, none, walk, filled, public}
+use Rattle.queue.specs.Roles.{Role, none, walk}
 use Rattle.queue.specs.Invariant as Q
-use Rattle.queue.specs.Walking
-use Rattle.invariant.specs.Table.{handsOff, lookKind, About, waiter, owning, about, Lock, aboutAt, linksOf, waitOf, roleOf, Free, Allowed, leaver}
+use Rattle.invariant.specs.Table.{handsOff, lookKind, waiter, owning, about, aboutAt, leaver}
 use Rattle.invariant.specs.Invariant.{readers, writers, leavers, Count, Real, wakes, Newest, queueOf, Inv}
-use Rattle.invariant.specs.Beside.{owned, real-hands-off}
-use Rattle.invariant.specs.Frames.{moved, waits-as, view, summed, land}
+use Rattle.invariant.specs.Exclusion.{owned, real-hands-off}
+use Rattle.invariant.specs.Frames.{summed, land, viewed-still, same-newest}
 use Rattle.invariant.specs.Moves.{isAside}
-use Rattle.invariant.specs.Moves.{stood}
-use Rattle.invariant.specs.Kept.{lookAt, Kept, kept-still, placed, Goes}
-use Rattle.invariant.specs.On.{alike-own, unlinked, stroll}
-use Rattle.invariant.specs.Words.{agreed}
+use Rattle.invariant.specs.Kept.{lookAt, Kept, placed, Goes, Setting, mine, goneTo, kept-stood, movedTo}
+use Rattle.invariant.specs.Kept.{kept-compare}
+use Rattle.invariant.specs.OnQueue.{alike-own, unlinked, goes-on-queue, public-look, begun-at}
+use Rattle.invariant.specs.TableFacts.{OwnsNothing, owns-nothing-waiting, owns-nothing-idle}
 
-pub public-look : (c : Bool) → public (lookKind c) ≡ true
-public-look true = refl
-public-look false = refl
+module _ (st : Setting) (who : Who) (seen : Word) where
+  open Setting st using (n, s, g, i, me, tin)
 
--- where an owner goes on that gives the queue up: h is what it holds
-pub record Leaves (a : About) (h : Holding) (was-registered : Bool) : Type 0 where
-  pub owner : a .owner ≡ false
-  pub reader : a .reader ≡ false
-  pub registered : a .registered ≡ was-registered
-  pub asleep : a .asleep ≡ false
-  pub unfilled : filled (a .role) ≡ false
-  pub ok : a .ok ≡ true
-  pub leaves : a .leaves ≡ false
-  pub needsQueue : a .needsQueue ≡ false
-  pub may : Free h → Allowed (a .may) h
-
-module _ (n : ℕ) (s : Lock) (g : Ghost) (i : Inv n s g) (me : ThreadNumber) (tin : me .0 < n) (mark : Mark) (fails : Bool) (who : Who) (seen : Word) where
   -- an owner has a queue
   owner-queued : aboutAt s (me .0) .owner ≡ true → queued (s .word) ≡ true
-  owner-queued o = not-false (queued (s .word)) (λ e. never (i .bare e .0) (owned n s g i (me .0) o))
+  owner-queued o = not-false (queued (s .word)) (λ e. never (i .bare e .0) (owned i (me .0) o))
 
   -- it finds the tail again, from the word as it is
   module _ (r : Role) (ok : Bool) (is : aboutAt s (me .0) ≡ owning who seen r ok) where
-    pub again : Q.Inv g (Q.moved (queueOf s) (me .0) (linksOf (s .nd)) (waitOf (s .th) (s .nd)) none)
-        → Inv n (moved s (me .0) (s .word) (placed (s .th (me .0)) (WalkTail (Queue who) (s .word) (toNode (s .word)))) (s .nd)) g
+    pub again : Q.Inv g (Q.turned (queueOf s) (me .0) none)
+        → Inv n (goneTo st (WalkTail (Queue who) (s .word) (toNode (s .word))) (s .nd)) g
     again down =
-        stroll n s g i (me .0) tin (WalkTail (Queue who) (s .word) (toNode (s .word))) (rw is (alike-own who seen (s .word) r _ ok true refl refl))
-        (s .nd) (linksOf (s .nd)) (unlinked (s .nd)) (λ x _. real-hands-off n s g i x) begun
+        goes-on-queue st (WalkTail (Queue who) (s .word) (toNode (s .word)))
+        (rw is (alike-own who seen (s .word) r _ ok true refl refl)) (unlinked (s .nd)) (λ x _. real-hands-off i x)
+        begun
       where
         v : Newest g (s .word)
         v = i .newest (owner-queued (rw is refl))
 
-        begun : Q.Inv g (Q.moved (queueOf s) (me .0) (linksOf (s .nd)) (waitOf (s .th) (s .nd)) (walk (lookKind (handsOff (s .word))) (toNode (s .word) .0) (toNode (s .word) .0)))
-        begun = rw Q.moved-twice at (Walking.begin g (Q.moved (queueOf s) (me .0) (linksOf (s .nd)) (waitOf (s .th) (s .nd)) none) down (me .0) (lookKind (handsOff (s .word))) (public-look (handsOff (s .word))) (toNode (s .word) .0) (v .ticket) (upd-same (roleOf (s .th)) (me .0) none) (v .last) (v .some) (v .node))
+        begun : Q.Inv g
+            (Q.turned (queueOf s) (me .0)
+            (walk (lookKind (handsOff (s .word))) (toNode (s .word) .0) (toNode (s .word) .0)))
+        begun = begun-at s (me .0) _ (lookKind (handsOff (s .word))) (public-look (handsOff (s .word))) v down
 
     -- ── QUEUE_LOCKED is cleared ──
 
-    module _ (p : Place) (l : Leaves (about p) (s .th (me .0) .holding) (waiter who)) (plain : downgraded (s .word) ≡ false) (queue : Q.Inv g (Q.moved (queueOf s) (me .0) (linksOf (s .nd)) (waitOf (s .th) (s .nd)) (about p .role))) (sees : locked (s .word) ≡ false → g .taken (me .0) .beg < g .taken (me .0) .end) where
+    module _ (p : Place) (l : OwnsNothing (about p) (mine st .holding) (waiter who))
+        (plain : downgraded (s .word) ≡ false) (queue : Q.Inv g (Q.turned (queueOf s) (me .0) (about p .role)))
+        (sees : locked (s .word) ≡ false → g .taken (me .0) .beg < g .taken (me .0) .end) where
       abbrev w : Word
       w = clearQueueLocked (s .word)
 
@@ -89,31 +75,28 @@ module _ (n : ℕ) (s : Lock) (g : Ghost) (i : Inv n s g) (me : ThreadNumber) (t
       still-plain : downgraded w ≡ false
       still-plain = clear-keeps QUEUE-LOCKED DOWNGRADED refl (s .word) ∙ plain
 
-      waits : waitOf (upd (s .th) (me .0) (placed (s .th (me .0)) p)) (s .nd) ≡ waitOf (s .th) (s .nd)
-      waits = waits-as s (me .0) (placed (s .th (me .0)) p) (s .nd) (waitOf (s .th) (s .nd)) refl (rw (l .registered, is)) (λ u ne. refl)
-
-      left : (leaver (s .th (me .0)) ≡ 0) × (leaver (placed (s .th (me .0)) p) ≡ 0)
+      left : (leaver (mine st) ≡ 0) × (leaver (placed (mine st) p) ≡ 0)
       left = (rw is refl, rw (l .leaves) refl)
 
-      same-readers : readers n (moved s (me .0) w (placed (s .th (me .0)) p) (s .nd)) ≡ readers n s
-      same-readers = by (summed s (me .0) (placed (s .th (me .0)) p) (s .nd) n tin (λ y. readsOf (y .holding)))
+      same-readers : readers n (movedTo st w (placed (mine st) p)) ≡ readers n s
+      same-readers = by (summed s (me .0) (placed (mine st) p) (s .nd) n tin (λ y. readsOf (y .holding)))
         where
-          by : {a b : ℕ} → a + readsOf (s .th (me .0) .holding) ≡ b + readsOf (s .th (me .0) .holding) → a ≡ b
+          by : {a b : ℕ} → a + readsOf (mine st .holding) ≡ b + readsOf (mine st .holding) → a ≡ b
           by e = omega arith
 
-      back : Real n (moved s (me .0) w (placed (s .th (me .0)) p) (s .nd)) → Real n s
+      back : Real n (movedTo st w (placed (mine st) p)) → Real n s
       back r = record { some = rw same-readers at (r .some); queue = has-queue; plain = plain }
 
-      pub unown : Inv n (moved s (me .0) w (placed (s .th (me .0)) p) (s .nd)) g
-      unown = land n s g g (me .0) w (placed (s .th (me .0)) p) (s .nd) i (record {
-        queue = subst (λ z. Q.Inv g z) (sym (view s (me .0) (placed (s .th (me .0)) p) (s .nd) w (linksOf (s .nd)) (waitOf (s .th) (s .nd)) refl waits)) queue;
-        newest = λ e. let v : Newest g (s .word) = i .newest has-queue in record { ticket = v .ticket; last = v .last; some = v .some; node = v .node ∙ ap (λ z. z .0) (sym (clear-node QUEUE-LOCKED refl (s .word))) };
+      pub unown : Inv n (movedTo st w (placed (mine st) p)) g
+      unown = land i g (me .0) w (placed (mine st) p) (s .nd) (record {
+        queue = viewed-still s (me .0) (placed (mine st) p) w (rw (l .registered, is)) queue;
+        newest = λ e. same-newest w (clear-node QUEUE-LOCKED refl (s .word)) (i .newest has-queue);
         nobody = λ e. never e still-queued;
         handed = λ e d. never still-plain d;
         bare = λ e. never e still-queued;
         inside = tin;
-        owner = rw (clear-has QUEUE-LOCKED refl (s .word), l .owner, is, owned n s g i (me .0) (rw is refl));
-        may = l .may (rw is at (i .holding (me .0)));
+        owner = rw (clear-has QUEUE-LOCKED refl (s .word), l .owner, is, owned i (me .0) (rw is refl));
+        may = l .may;
         count = λ r v k er ev ek. counts r v k er ev (rw (left .0, left .1) at ek);
         needs = never (l .needsQueue);
         needs-all = λ u ne e. still-queued;
@@ -130,8 +113,9 @@ module _ (n : ℕ) (s : Lock) (g : Ghost) (i : Inv n s g) (me : ThreadNumber) (t
         seen-to = λ _ e _. (me .0, wakes (sees (sym same-locked ∙ e)));
       })
         where
-          counts : (r v k : ℕ) → r + readsOf (s .th (me .0) .holding) ≡ readers n s + readsOf (s .th (me .0) .holding)
-              → v + writesOf (s .th (me .0) .holding) ≡ writers n s + writesOf (s .th (me .0) .holding) → k + 0 ≡ leavers n s + 0 → Count w r v k
+          counts : (r v k : ℕ) → r + readsOf (mine st .holding) ≡ readers n s + readsOf (mine st .holding)
+              → v + writesOf (mine st .holding) ≡ writers n s + writesOf (mine st .holding)
+              → k + 0 ≡ leavers n s + 0 → Count w r v k
           counts r v k er ev ek =
               let a : r ≡ readers n s = omega arith in
               let b : v ≡ writers n s = omega arith in
@@ -144,7 +128,7 @@ module _ (n : ℕ) (s : Lock) (g : Ghost) (i : Inv n s g) (me : ThreadNumber) (t
               })
 
   -- the owner puts its role down where it was none
-  put-down : aboutAt s (me .0) .role ≡ none → Q.Inv g (Q.moved (queueOf s) (me .0) (linksOf (s .nd)) (waitOf (s .th) (s .nd)) none)
+  put-down : aboutAt s (me .0) .role ≡ none → Q.Inv g (Q.turned (queueOf s) (me .0) none)
   put-down e = Q.turn g (queueOf s) (i .queue) (me .0) none (rw e at (i .queue .know (me .0))) (never refl)
 
   -- what QueueCas has seen
@@ -156,8 +140,10 @@ module _ (n : ℕ) (s : Lock) (g : Ghost) (i : Inv n s g) (me : ThreadNumber) (t
       by true true f = never refl f
       by false d f = never refl f
 
-  pub kept-queue-cas : s .th (me .0) .place ≡ QueueCas who seen → Goes n s g me mark fails (suc (me .0)) (λ v. queueCasOf v who seen)
-  kept-queue-cas here = pick-both (Kept n s g me (suc (me .0))) (agreesOf (lookAt s me (suc (me .0)) mark fails) seen) _ _ (λ e. clears who refl (agreed (lookAt s me (suc (me .0)) mark fails) seen e)) (λ _. kept-still n s g me (suc (me .0)) _ _ g (stood me g _ (QueueCas who seen) here refl _ refl) (again none (handsOff seen) is (put-down (rw is refl))))
+  pub kept-queue-cas : mine st .place ≡ QueueCas who seen → Goes st (suc (me .0)) (λ v. queueCasOf v who seen)
+  kept-queue-cas here = kept-compare st (suc (me .0)) seen _ _
+      (λ same. clears who refl same)
+      (kept-stood st (suc (me .0)) here refl _ _ refl (again none (handsOff seen) is (put-down (rw is refl))))
     where
       is : aboutAt s (me .0) ≡ owning who seen none (handsOff seen)
       is = ap about here
@@ -165,22 +151,24 @@ module _ (n : ℕ) (s : Lock) (g : Ghost) (i : Inv n s g) (me : ThreadNumber) (t
       flags : (locked seen ≡ true) × (downgraded seen ≡ false)
       flags = held-off (rw is at (i .fits (me .0)))
 
-      ends : (o : Who) → o ≡ who → s .word ≡ seen → Inv n (moved s (me .0) (clearQueueLocked (s .word)) (placed (s .th (me .0)) (afterQueue o .place)) (s .nd)) g
+      ends : (o : Who) → o ≡ who → s .word ≡ seen
+          → Inv n (movedTo st (clearQueueLocked (s .word)) (placed (mine st) (afterQueue o .place))) g
       ends (Waiter writer) z same =
           unown none (handsOff seen) is (CompletedLoad writer)
-          (record { owner = refl; reader = refl; registered = ap waiter z; asleep = refl; unfilled = refl; ok = refl; leaves = refl; needsQueue = refl; may = λ h. h })
+          (owns-nothing-waiting (ap waiter z) (rw is at (i .holding (me .0))))
           (ap downgraded same ∙ flags .1) (put-down (rw is refl)) (λ e. never e (ap locked same ∙ flags .0))
       ends Leaver z same =
-          unown none (handsOff seen) is Idle
-          (record { owner = refl; reader = refl; registered = ap waiter z; asleep = refl; unfilled = refl; ok = refl; leaves = refl; needsQueue = refl; may = λ h. tt })
-          (ap downgraded same ∙ flags .1) (put-down (rw is refl)) (λ e. never e (ap locked same ∙ flags .0))
+          unown none (handsOff seen) is Idle (owns-nothing-idle (ap waiter z)) (ap downgraded same ∙ flags .1)
+          (put-down (rw is refl)) (λ e. never e (ap locked same ∙ flags .0))
 
       near : (o : Who) → isAside (afterQueue o .place) ≡ false
       near (Waiter writer) = refl
       near Leaver = refl
 
       clears : (o : Who) → o ≡ who → s .word ≡ seen
-          → Kept n s g me (suc (me .0)) (writes (lookAt s me (suc (me .0)) mark fails) (clearQueueLocked seen) (s .th (me .0) .holding) (afterQueue o))
+          → Kept st (suc (me .0))
+          (writes (lookAt st (suc (me .0))) (clearQueueLocked seen) (mine st .holding) (afterQueue o))
       clears o z same =
-          kept-still n s g me (suc (me .0)) _ _ g (stood me g _ (QueueCas who seen) here refl _ (near o))
-          (subst (λ x. Inv n (moved s (me .0) (clearQueueLocked x) (placed (s .th (me .0)) (afterQueue o .place)) (s .nd)) g) same (ends o z same))
+          kept-stood st (suc (me .0)) here refl _ _ (near o)
+          (subst (λ x. Inv n (movedTo st (clearQueueLocked x) (placed (mine st) (afterQueue o .place)))
+          g) same (ends o z same))

@@ -1,4 +1,6 @@
--- A step at any place: the node that it touches is its own or waits, and its rule keeps the invariant. One row for each place. Assumes nothing.
+-- A step at any place: the node that it touches is its own or waits, and its rule keeps the invariant. One row for
+-- each place.
+-- Assumes nothing.
 use Prim.Native.Nat.{ℕ, suc, _+_, _-_, _≤_, _<_}
 use mathlib.Core.Bool.{Bool, true}
 use mathlib.Core.Logic.{_⊎_, inl, inr}
@@ -18,17 +20,16 @@ use Rattle.state.specs.Machine.{threadLimit}
 use Rattle.state.specs.declared.answer.Verdict.the-variants.{Fine}
 use Rattle.state.specs.declared.place.Walk.{Walk}
 use Rattle.state.specs.declared.place.Place.{Place}
-use Rattle.state.specs.declared.place.Place.the-variants.{Idle, TryReadLoad, TryReadCas, TryWriteOr, ContendLoad, ContendCas, RegisterCas, CompletedLoad, Park, WalkTail, WalkNext, WalkPrev, WalkHead, QueueCas, SplitPrev, SplitStore, SplitCas, SplitRestore, TakeCas, WakePrev, WakeStore, ReadUnlockLoad, ReadUnlockCas, Subtract, WriteUnlockCas, ReleaseCas, DowngradeCas, DowngradeSlowCas}
-use Rattle.state.specs.declared.view.Mark.{Mark}
+use Rattle.state.specs.declared.place.Place.the-variants as At
 use Rattle.state.specs.declared.view.Mark.the-variants.{Missing}
 use Rattle.lock.specs.Advance.{advanceOf}
 use Rattle.lock.specs.Step.{haltedOf, markedOf}
 use Rattle.queue.specs.Tickets.{Ghost}
-use Rattle.queue.specs.Reads.{All, Waits, named-wait}
+use Rattle.queue.specs.Reads.{EachNode, NodeWaits, named-wait}
 use Rattle.invariant.specs.Table.{about, Lock, waitOf}
-use Rattle.invariant.specs.Invariant.{queueOf, Inv}
-use Rattle.invariant.specs.Beside.{inside}
-use Rattle.invariant.specs.Kept.{Goes}
+use Rattle.invariant.specs.Invariant.{Inv}
+use Rattle.invariant.specs.Exclusion.{inside}
+use Rattle.invariant.specs.Kept.{Goes, Setting, mine}
 use Rattle.invariant.specs.FirstTry.{kept-try-read-load, kept-try-read-cas, kept-try-write-or}
 use Rattle.invariant.specs.Contend.{kept-contend-load, kept-contend-cas}
 use Rattle.invariant.specs.Register.{kept-register-cas}
@@ -45,125 +46,144 @@ use Rattle.invariant.specs.Downgrade.{kept-downgrade-cas, kept-downgrade
 
 -- ── which node a step touches ──
 
-module _ (n : ℕ) (s : Lock) (g : Ghost) (i : Inv n s g) where
-  abbrev pub Waiting : ℕ → Type 0
-  Waiting k = waitOf (s .th) (s .nd) k ≡ true
+module _ {n : ℕ} {s : Lock} {g : Ghost} (i : Inv n s g) where
+  abbrev pub WaitingNode : ℕ → Type 0
+  WaitingNode k = waitOf (s .th) (s .nd) k ≡ true
 
   -- every node number that a place carries waits
-  names : (t : ℕ) (p : Place) → s .th t .place ≡ p → All (Waits g (queueOf s) (i .queue) t) (about p .role)
-  names t p here = subst (λ q. All (Waits g (queueOf s) (i .queue) t) (about q .role)) here (named-wait g (queueOf s) (i .queue) t)
+  names : (t : ℕ) (p : Place) → s .th t .place ≡ p → EachNode (NodeWaits (i .queue) t) (about p .role)
+  names t p here = subst (λ q. EachNode (NodeWaits (i .queue) t) (about q .role)) here (named-wait (i .queue) t)
 
   -- its own, or one that waits
-  pub touches : (me : ThreadNumber) (p : Place) → s .th (me .0) .place ≡ p → (touchedOf (accessOf me p) me .0 ≡ me .0 + 1) ⊎ Waiting (touchedOf (accessOf me p) me .0)
+  pub touches : (me : ThreadNumber) (p : Place) → s .th (me .0) .place ≡ p
+      → (touchedOf (accessOf me p) me .0 ≡ me .0 + 1) ⊎ WaitingNode (touchedOf (accessOf me p) me .0)
   unfolding accessOf
-  touches me Idle here = inl refl
-  touches me (TryReadLoad _) here = inl refl
-  touches me (TryReadCas _ _) here = inl refl
-  touches me (TryWriteOr _) here = inl refl
-  touches me (ContendLoad _ _) here = inl refl
-  touches me (ContendCas _ _ _) here = inl refl
-  touches me (RegisterCas _ _ _) here = inl refl
-  touches me (CompletedLoad _) here = inl refl
-  touches me (Park _) here = inl refl
-  touches me (WalkTail k seen current) here = inr (names (me .0) (WalkTail k seen current) here .1)
-  touches me (WalkNext k seen current) here = inr (names (me .0) (WalkNext k seen current) here .1)
-  touches me (WalkPrev k seen current next) here = inr (names (me .0) (WalkPrev k seen current next) here .2)
-  touches me (WalkHead k seen tail) here = inr (names (me .0) (WalkHead k seen tail) here .0)
-  touches me (QueueCas _ _) here = inl refl
-  touches me (SplitPrev who seen tail) here = inr (names (me .0) (SplitPrev who seen tail) here .1)
-  touches me (SplitStore who seen tail prev) here = inr (names (me .0) (SplitStore who seen tail prev) here .0)
-  touches me (SplitCas _ _ _) here = inl refl
-  touches me (SplitRestore who seen tail reported) here = inr (names (me .0) (SplitRestore who seen tail reported) here .0)
-  touches me (TakeCas _ _ _) here = inl refl
-  touches me (WakePrev who current) here = inr (names (me .0) (WakePrev who current) here)
-  touches me (WakeStore who current prev) here = inr (names (me .0) (WakeStore who current prev) here .0)
-  touches me ReadUnlockLoad here = inl refl
-  touches me (ReadUnlockCas _) here = inl refl
-  touches me (Subtract seen tail) here = inr (names (me .0) (Subtract seen tail) here .1)
-  touches me WriteUnlockCas here = inl refl
-  touches me (ReleaseCas _) here = inl refl
-  touches me DowngradeCas here = inl refl
-  touches me (DowngradeSlowCas _) here = inl refl
+  touches me At.Idle here = inl refl
+  touches me (At.TryReadLoad _) here = inl refl
+  touches me (At.TryReadCas _ _) here = inl refl
+  touches me (At.TryWriteOr _) here = inl refl
+  touches me (At.ContendLoad _ _) here = inl refl
+  touches me (At.ContendCas _ _ _) here = inl refl
+  touches me (At.RegisterCas _ _ _) here = inl refl
+  touches me (At.CompletedLoad _) here = inl refl
+  touches me (At.Park _) here = inl refl
+  touches me (At.WalkTail k seen current) here = inr (names (me .0) (At.WalkTail k seen current) here .1)
+  touches me (At.WalkNext k seen current) here = inr (names (me .0) (At.WalkNext k seen current) here .1)
+  touches me (At.WalkPrev k seen current next) here = inr (names (me .0) (At.WalkPrev k seen current next) here .2)
+  touches me (At.WalkHead k seen tail) here = inr (names (me .0) (At.WalkHead k seen tail) here .0)
+  touches me (At.QueueCas _ _) here = inl refl
+  touches me (At.SplitPrev who seen tail) here = inr (names (me .0) (At.SplitPrev who seen tail) here .1)
+  touches me (At.SplitStore who seen tail prev) here = inr (names (me .0) (At.SplitStore who seen tail prev) here .0)
+  touches me (At.SplitCas _ _ _) here = inl refl
+  touches me (At.SplitRestore who seen tail reported) here =
+      inr (names (me .0) (At.SplitRestore who seen tail reported) here .0)
+  touches me (At.TakeCas _ _ _) here = inl refl
+  touches me (At.WakePrev who current) here = inr (names (me .0) (At.WakePrev who current) here)
+  touches me (At.WakeStore who current prev) here = inr (names (me .0) (At.WakeStore who current prev) here .0)
+  touches me At.ReadUnlockLoad here = inl refl
+  touches me (At.ReadUnlockCas _) here = inl refl
+  touches me (At.Subtract seen tail) here = inr (names (me .0) (At.Subtract seen tail) here .1)
+  touches me At.WriteUnlockCas here = inl refl
+  touches me (At.ReleaseCas _) here = inl refl
+  touches me At.DowngradeCas here = inl refl
+  touches me (At.DowngradeSlowCas _) here = inl refl
 
   -- the tail whose writer mark is read waits too
-  pub marks : (t : ℕ) (p : Place) → s .th t .place ≡ p → (markedOf p ≡ none) ⊎ Waiting (markedOf p .0)
+  pub marks : (t : ℕ) (p : Place) → s .th t .place ≡ p → (markedOf p ≡ none) ⊎ WaitingNode (markedOf p .0)
   unfolding markedOf
-  marks t Idle here = inl refl
-  marks t (TryReadLoad _) here = inl refl
-  marks t (TryReadCas _ _) here = inl refl
-  marks t (TryWriteOr _) here = inl refl
-  marks t (ContendLoad _ _) here = inl refl
-  marks t (ContendCas _ _ _) here = inl refl
-  marks t (RegisterCas _ _ _) here = inl refl
-  marks t (CompletedLoad _) here = inl refl
-  marks t (Park _) here = inl refl
-  marks t (WalkTail _ _ _) here = inl refl
-  marks t (WalkNext _ _ _) here = inl refl
-  marks t (WalkPrev _ _ _ _) here = inl refl
-  marks t (WalkHead k seen tail) here = inr (names t (WalkHead k seen tail) here .1)
-  marks t (QueueCas _ _) here = inl refl
-  marks t (SplitPrev _ _ _) here = inl refl
-  marks t (SplitStore _ _ _ _) here = inl refl
-  marks t (SplitCas _ _ _) here = inl refl
-  marks t (SplitRestore _ _ _ _) here = inl refl
-  marks t (TakeCas _ _ _) here = inl refl
-  marks t (WakePrev _ _) here = inl refl
-  marks t (WakeStore _ _ _) here = inl refl
-  marks t ReadUnlockLoad here = inl refl
-  marks t (ReadUnlockCas _) here = inl refl
-  marks t (Subtract _ _) here = inl refl
-  marks t WriteUnlockCas here = inl refl
-  marks t (ReleaseCas _) here = inl refl
-  marks t DowngradeCas here = inl refl
-  marks t (DowngradeSlowCas _) here = inl refl
+  marks t At.Idle here = inl refl
+  marks t (At.TryReadLoad _) here = inl refl
+  marks t (At.TryReadCas _ _) here = inl refl
+  marks t (At.TryWriteOr _) here = inl refl
+  marks t (At.ContendLoad _ _) here = inl refl
+  marks t (At.ContendCas _ _ _) here = inl refl
+  marks t (At.RegisterCas _ _ _) here = inl refl
+  marks t (At.CompletedLoad _) here = inl refl
+  marks t (At.Park _) here = inl refl
+  marks t (At.WalkTail _ _ _) here = inl refl
+  marks t (At.WalkNext _ _ _) here = inl refl
+  marks t (At.WalkPrev _ _ _ _) here = inl refl
+  marks t (At.WalkHead k seen tail) here = inr (names t (At.WalkHead k seen tail) here .1)
+  marks t (At.QueueCas _ _) here = inl refl
+  marks t (At.SplitPrev _ _ _) here = inl refl
+  marks t (At.SplitStore _ _ _ _) here = inl refl
+  marks t (At.SplitCas _ _ _) here = inl refl
+  marks t (At.SplitRestore _ _ _ _) here = inl refl
+  marks t (At.TakeCas _ _ _) here = inl refl
+  marks t (At.WakePrev _ _) here = inl refl
+  marks t (At.WakeStore _ _ _) here = inl refl
+  marks t At.ReadUnlockLoad here = inl refl
+  marks t (At.ReadUnlockCas _) here = inl refl
+  marks t (At.Subtract _ _) here = inl refl
+  marks t At.WriteUnlockCas here = inl refl
+  marks t (At.ReleaseCas _) here = inl refl
+  marks t At.DowngradeCas here = inl refl
+  marks t (At.DowngradeSlowCas _) here = inl refl
 
   -- a node that waits has a slot
-  pub slot-waiting : (k : NodeNumber) → Waiting (k .0) → (j : ℕ) × (slotOf k n ≡ At j)
+  pub slot-waiting : (k : NodeNumber) → WaitingNode (k .0) → (j : ℕ) × (slotOf k n ≡ At j)
   slot-waiting k w =
       let x : Waiter-of s (k .0) = waiter-of s (k .0) w in
-      let l : x .thread < n = inside n s g i (x .thread) (λ a. a .registered) refl (x .registered) in
-      (k .0 - 1, sym (pick-no (ltb (k .0) 1) _ Outside _ (le-ltb (k .0) 1 (omega (arith, x .node))) (pick-no (ltb n (k .0)) _ Outside _ (le-ltb n (k .0) (omega (arith, x .node))) refl)))
+      let l : x .thread < n = inside i (x .thread) (λ a. a .registered) refl (x .registered) in (
+        k .0 - 1,
+        sym (pick-no (ltb (k .0) 1) _ Outside _ (le-ltb (k .0) 1 (omega (arith, x .node)))
+            (pick-no (ltb n (k .0)) _ Outside _ (le-ltb n (k .0) (omega (arith, x .node))) refl)),
+      )
 
   -- the tail that a walk found has a slot too
-  pub slot-marked : (t : ℕ) (k : Walk) (seen : Word) (tail : NodeNumber) → s .th t .place ≡ WalkHead k seen tail → (j : ℕ) × (slotOf tail n ≡ At j)
-  slot-marked t k seen tail here = slot-waiting tail (names t (WalkHead k seen tail) here .1)
+  pub slot-marked : (t : ℕ) (k : Walk) (seen : Word) (tail : NodeNumber) → s .th t .place ≡ At.WalkHead k seen tail
+      → (j : ℕ) × (slotOf tail n ≡ At j)
+  slot-marked t k seen tail here = slot-waiting tail (names t (At.WalkHead k seen tail) here .1)
 
 -- ── what a step does ──
 
-module _ (n : ℕ) (few : n ≤ threadLimit) (s : Lock) (g : Ghost) (i : Inv n s g) (me : ThreadNumber) (tin : me .0 < n) (mark : Mark) (fails : Bool) where
-  own : (p : Place) → Goes n s g me mark fails (suc (me .0)) (λ v. advanceOf v p) → Goes n s g me mark fails (me .0 + 1) (λ v. advanceOf v p)
-  own p = subst (λ k. Goes n s g me mark fails k (λ v. advanceOf v p)) (sym (add-one (me .0)))
+module _ (st : Setting) (few : st .n ≤ threadLimit) where
+  open Setting st using (n, s, g, i, me, tin)
+
+  own : (p : Place) → Goes st (suc (me .0)) (λ v. advanceOf v p) → Goes st (me .0 + 1) (λ v. advanceOf v p)
+  own p = subst (λ k. Goes st k (λ v. advanceOf v p)) (sym (add-one (me .0)))
 
   -- the rule of every place keeps the invariant, where the step is not halted and a walk's tail has its mark
-  pub kept-at : (p : Place) → s .th (me .0) .place ≡ p → (token : Bool) → haltedOf (accessOf me p .kind) token fails ≡ Fine
-      → ((k : Walk) (seen : Word) (tail : NodeNumber) → p ≡ WalkHead k seen tail → mark ≡ Missing → ⊥)
-      → Goes n s g me mark fails (touchedOf (accessOf me p) me .0) (λ v. advanceOf v p)
+  pub kept-everywhere : (p : Place) → mine st .place ≡ p → (token : Bool)
+      → haltedOf (accessOf me p .kind) token (st .fails) ≡ Fine
+      → ((k : Walk) (seen : Word) (tail : NodeNumber) → p ≡ At.WalkHead k seen tail → st .mark ≡ Missing → ⊥)
+      → Goes st (touchedOf (accessOf me p) me .0) (λ v. advanceOf v p)
   unfolding accessOf advanceOf
-  kept-at Idle here token fine marked = absurd (let bad : _≡_ {A = ℕ} 0 1 = cc in omega arith)
-  kept-at (TryReadLoad blocking) here token fine marked = kept-try-read-load n s g i me tin mark fails _ blocking here
-  kept-at (TryReadCas blocking seen) here token fine marked = kept-try-read-cas n s g i me tin mark fails _ blocking seen here
-  kept-at (TryWriteOr blocking) here token fine marked = kept-try-write-or n s g i me tin mark fails _ blocking here
-  kept-at (ContendLoad writer reloads) here token fine marked = own (ContendLoad writer reloads) (kept-contend-load n s g i me tin mark fails writer reloads here)
-  kept-at (ContendCas writer reloads seen) here token fine marked = own (ContendCas writer reloads seen) (kept-contend-cas n s g i me tin mark fails writer reloads seen here)
-  kept-at (RegisterCas writer reloads seen) here token fine marked = own (RegisterCas writer reloads seen) (kept-register-cas n s g i me tin mark fails writer reloads seen here)
-  kept-at (CompletedLoad writer) here token fine marked = own (CompletedLoad writer) (kept-completed-load n s g i me tin mark fails writer here)
-  kept-at (Park writer) here token fine marked = own (Park writer) (kept-park n s g i me tin mark fails writer here)
-  kept-at (WalkTail k seen current) here token fine marked = kept-walk-tail n s g i me tin mark fails k seen current here
-  kept-at (WalkNext k seen current) here token fine marked = kept-walk-next n s g i me tin mark fails k seen current here
-  kept-at (WalkPrev k seen current next) here token fine marked = kept-walk-prev n s g i me tin mark fails k seen current next here
-  kept-at (WalkHead k seen tail) here token fine marked = kept-walk-head n s g i me tin mark fails k seen tail here (marked k seen tail refl)
-  kept-at (QueueCas who seen) here token fine marked = own (QueueCas who seen) (kept-queue-cas n s g i me tin mark fails who seen here)
-  kept-at (SplitPrev who seen tail) here token fine marked = kept-split-prev n s g i me tin mark fails who seen tail here
-  kept-at (SplitStore who seen tail prev) here token fine marked = kept-split-store n s g i me tin mark fails who seen tail prev here
-  kept-at (SplitCas who seen tail) here token fine marked = own (SplitCas who seen tail) (kept-split-cas n s g i me tin mark fails who seen tail here)
-  kept-at (SplitRestore who seen tail reported) here token fine marked = kept-split-restore n s g i me tin mark fails who seen tail reported here
-  kept-at (TakeCas who seen tail) here token fine marked = own (TakeCas who seen tail) (kept-take-cas n s g i me tin mark fails who seen tail here)
-  kept-at (WakePrev who current) here token fine marked = kept-wake-prev n few s g i me tin mark fails who current here
-  kept-at (WakeStore who current prev) here token fine marked = kept-wake-store n few s g i me tin mark fails who current prev here
-  kept-at ReadUnlockLoad here token fine marked = kept-read-unlock-load n s g i me tin mark fails _ here
-  kept-at (ReadUnlockCas seen) here token fine marked = kept-read-unlock-cas n s g i me tin mark fails _ seen here
-  kept-at (Subtract seen tail) here token fine marked = kept-subtract n s g i me tin mark fails seen tail here
-  kept-at WriteUnlockCas here token fine marked = kept-write-unlock-cas n s g i me tin mark fails _ here
-  kept-at (ReleaseCas seen) here token fine marked = kept-release-cas n s g i me tin mark fails _ seen here
-  kept-at DowngradeCas here token fine marked = kept-downgrade-cas n s g i me tin mark fails _ here
-  kept-at (DowngradeSlowCas seen) here token fine marked = kept-downgrade-slow-cas n s g i me tin mark fails _ seen here
+  kept-everywhere At.Idle here token fine marked = absurd (let bad : _≡_ {A = ℕ} 0 1 = cc in omega arith)
+  kept-everywhere (At.TryReadLoad blocking) here token fine marked = kept-try-read-load st _ blocking here
+  kept-everywhere (At.TryReadCas blocking seen) here token fine marked = kept-try-read-cas st _ blocking seen here
+  kept-everywhere (At.TryWriteOr blocking) here token fine marked = kept-try-write-or st _ blocking here
+  kept-everywhere (At.ContendLoad writer reloads) here token fine marked =
+      own (At.ContendLoad writer reloads) (kept-contend-load st writer reloads here)
+  kept-everywhere (At.ContendCas writer reloads seen) here token fine marked =
+      own (At.ContendCas writer reloads seen) (kept-contend-cas st writer reloads seen here)
+  kept-everywhere (At.RegisterCas writer reloads seen) here token fine marked =
+      own (At.RegisterCas writer reloads seen) (kept-register-cas st writer reloads seen here)
+  kept-everywhere (At.CompletedLoad writer) here token fine marked =
+      own (At.CompletedLoad writer) (kept-completed-load st writer here)
+  kept-everywhere (At.Park writer) here token fine marked = own (At.Park writer) (kept-park st writer here)
+  kept-everywhere (At.WalkTail k seen current) here token fine marked = kept-walk-tail st k seen current here
+  kept-everywhere (At.WalkNext k seen current) here token fine marked = kept-walk-next st k seen current here
+  kept-everywhere (At.WalkPrev k seen current next) here token fine marked = kept-walk-prev st k seen current next here
+  kept-everywhere (At.WalkHead k seen tail) here token fine marked =
+      kept-walk-head st k seen tail here (marked k seen tail refl)
+  kept-everywhere (At.QueueCas who seen) here token fine marked =
+      own (At.QueueCas who seen) (kept-queue-cas st who seen here)
+  kept-everywhere (At.SplitPrev who seen tail) here token fine marked = kept-split-prev st who seen tail here
+  kept-everywhere (At.SplitStore who seen tail prev) here token fine marked =
+      kept-split-store st who seen tail prev here
+  kept-everywhere (At.SplitCas who seen tail) here token fine marked =
+      own (At.SplitCas who seen tail) (kept-split-cas st who seen tail here)
+  kept-everywhere (At.SplitRestore who seen tail reported) here token fine marked =
+      kept-split-restore st who seen tail reported here
+  kept-everywhere (At.TakeCas who seen tail) here token fine marked =
+      own (At.TakeCas who seen tail) (kept-take-cas st who seen tail here)
+  kept-everywhere (At.WakePrev who current) here token fine marked = kept-wake-prev st few who current here
+  kept-everywhere (At.WakeStore who current prev) here token fine marked = kept-wake-store st few who current prev here
+  kept-everywhere At.ReadUnlockLoad here token fine marked = kept-read-unlock-load st _ here
+  kept-everywhere (At.ReadUnlockCas seen) here token fine marked = kept-read-unlock-cas st _ seen here
+  kept-everywhere (At.Subtract seen tail) here token fine marked = kept-subtract st seen tail here
+  kept-everywhere At.WriteUnlockCas here token fine marked = kept-write-unlock-cas st _ here
+  kept-everywhere (At.ReleaseCas seen) here token fine marked = kept-release-cas st _ seen here
+  kept-everywhere At.DowngradeCas here token fine marked = kept-downgrade-cas st _ here
+  kept-everywhere (At.DowngradeSlowCas seen) here token fine marked = kept-downgrade-slow-cas st _ seen here

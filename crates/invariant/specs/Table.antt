@@ -1,8 +1,10 @@
--- The lock's threads as the queue sees them: one table over the places, from which every summary is read.
--- In this order: what an owner makes of the word it saw; what is told of a place; the table; the machine as functions; its holders. Assumes nothing.
+-- The lock's threads as the queue sees them: one table over the places, from which every summary is read. In this
+-- order: what an owner makes of the word it saw; what is told of a place; the table; the machine as functions; its
+-- holders.
+-- Assumes nothing.
 use Prim.Native.Nat.{ℕ, zero, suc}
 use mathlib.Core.Bool.{Bool, true, false, not}
-use mathlib.Core.Path.{_≡_}
+use mathlib.Core.Path.{_≡_, ap}
 use Rattle.word.specs.Base.{pick}
 use Rattle.word.specs.Flags.{word, locked, queued, downgraded, toNode, withoutFlags}
 use Rattle.word.specs.declared.flags.Word.{Word}
@@ -15,10 +17,11 @@ use Rattle.state.specs.declared.place.Who.the-variants.{Waiter, Leaver}
 use Rattle.state.specs.declared.place.Walk.{Walk}
 use Rattle.state.specs.declared.place.Walk.the-variants.{Queue, ReadUnlock, Downgrade}
 use Rattle.state.specs.declared.place.Place.{Place}
-use Rattle.state.specs.declared.place.Place.the-variants.{Idle, TryReadLoad, TryReadCas, TryWriteOr, ContendLoad, ContendCas, RegisterCas, CompletedLoad, Park, WalkTail, WalkNext, WalkPrev, WalkHead, QueueCas, SplitPrev, SplitStore, SplitCas, SplitRestore, TakeCas, WakePrev, WakeStore, ReadUnlockLoad, ReadUnlockCas, Subtract, WriteUnlockCas, ReleaseCas, DowngradeCas, DowngradeSlowCas}
+use Rattle.state.specs.declared.place.Place.the-variants as At
 use Rattle.lock.specs.Begin.{holdsNothing}
 use Rattle.queue.specs.Queue.{Links}
-use Rattle.queue.specs.Roles.{Role, none, ready, walk, past, link, head, split, aside, undo, wake, store, Kind, looks, changes, alone}
+use Rattle.queue.specs.Roles.{Role, none, ready, walk, past, link, head, split, aside, undo, wake, store, WalkKind}
+use Rattle.queue.specs.Roles.{looks, changes, alone}
 
 -- ── the word that an owner saw ──
 
@@ -41,8 +44,9 @@ pub data May : Type 0 where
   notRead : May
   notWrite : May
 
--- role: what it knows of the queue. owner, seen: the queue owner and the word it saw. reader: a contended reader. registered: its node waits or is
--- completed. ok: what its place says of the word it saw. leaves: a last reader between its subtraction and its release, if it holds nothing
+-- role: what it knows of the queue. owner, seen: the queue owner and the word it saw. reader: a contended reader.
+-- registered: its node waits or is completed. ok: what its place says of the word it saw. leaves: a last reader
+-- between its subtraction and its release, if it holds nothing
 pub record About : Type 0 where
   pub role : Role
   pub owner : Bool
@@ -74,30 +78,30 @@ forReader (Queue _) = false
 forReader ReadUnlock = true
 forReader Downgrade = false
 
-abbrev pub byWaiter : Walk → Bool
-byWaiter (Queue who) = waiter who
-byWaiter ReadUnlock = false
-byWaiter Downgrade = false
+abbrev pub walkedByWaiter : Walk → Bool
+walkedByWaiter (Queue who) = waiter who
+walkedByWaiter ReadUnlock = false
+walkedByWaiter Downgrade = false
 
 abbrev pub mayWalk : Walk → May
 mayWalk (Queue _) = free
 mayWalk ReadUnlock = reads
 mayWalk Downgrade = reads
 
-abbrev pub lookKind : Bool → Kind
+abbrev pub lookKind : Bool → WalkKind
 lookKind true = looks
 lookKind false = changes
 
-abbrev pub kindOf : Walk → Word → Kind
-kindOf (Queue _) w = lookKind (handsOff w)
-kindOf ReadUnlock w = looks
-kindOf Downgrade w = alone
+abbrev pub walkKindOf : Walk → Word → WalkKind
+walkKindOf (Queue _) w = lookKind (handsOff w)
+walkKindOf ReadUnlock w = looks
+walkKindOf Downgrade w = alone
 
 -- ── the table ──
 
 -- off the queue: may, leaves, needsQueue, contends
-abbrev pub off : May → Bool → Bool → Bool → About
-off may leaves needsQueue contends =
+abbrev pub offQueue : May → Bool → Bool → Bool → About
+offQueue may leaves needsQueue contends =
     record {
       role = none;
       owner = false;
@@ -153,7 +157,7 @@ walking k seen role =
       owner = forQueue k;
       seen = seen;
       reader = forReader k;
-      registered = byWaiter k;
+      registered = walkedByWaiter k;
       asleep = false;
       may = mayWalk k;
       ok = true;
@@ -196,34 +200,36 @@ waking who role =
     }
 
 abbrev pub about : Place → About
-about Idle = off any false false false
-about (TryReadLoad _) = off free false false false
-about (TryReadCas _ _) = off free false false false
-about (TryWriteOr _) = off free false false false
-about (ContendLoad _ _) = off free false false true
-about (ContendCas _ _ _) = off free false false true
-about (RegisterCas _ _ seen) = filling seen
-about (CompletedLoad _) = waiting false
-about (Park _) = waiting true
-about (WalkTail k seen current) = walking k seen (walk (kindOf k seen) (toNode seen .0) (current .0))
-about (WalkNext k seen current) = walking k seen (past (kindOf k seen) (toNode seen .0) (current .0))
-about (WalkPrev k seen current next) = walking k seen (link (kindOf k seen) (toNode seen .0) (current .0) (next .0))
-about (WalkHead k seen tail) = walking k seen (head (kindOf k seen) (toNode seen .0) (tail .0))
-about (QueueCas who seen) = owning who seen none (handsOff seen)
-about (SplitPrev who seen tail) = owning who seen (head changes (toNode seen .0) (tail .0)) (unheld seen)
-about (SplitStore who seen tail prev) = owning who seen (split (toNode seen .0) (tail .0) (prev .0)) (unheld seen)
-about (SplitCas who seen tail) = owning who seen (aside (toNode seen .0) (tail .0)) (unheld seen)
-about (SplitRestore who seen tail reported) = owning who seen (undo (toNode seen .0) (tail .0) (toNode reported .0)) (unheld seen)
-about (TakeCas who seen tail) = owning who seen (head changes (toNode seen .0) (tail .0)) (not (handsOff seen))
-about (WakePrev who current) = waking who (wake (current .0))
-about (WakeStore who current prev) = waking who (store (current .0) (prev .0))
-about ReadUnlockLoad = off reads false false false
-about (ReadUnlockCas _) = off reads false false false
-about (Subtract seen tail) = walking ReadUnlock seen (head looks (toNode seen .0) (tail .0))
-about WriteUnlockCas = off writes false false false
-about (ReleaseCas _) = off notRead true true false
-about DowngradeCas = off writes false false false
-about (DowngradeSlowCas _) = off writes false true false
+about At.Idle = offQueue any false false false
+about (At.TryReadLoad _) = offQueue free false false false
+about (At.TryReadCas _ _) = offQueue free false false false
+about (At.TryWriteOr _) = offQueue free false false false
+about (At.ContendLoad _ _) = offQueue free false false true
+about (At.ContendCas _ _ _) = offQueue free false false true
+about (At.RegisterCas _ _ seen) = filling seen
+about (At.CompletedLoad _) = waiting false
+about (At.Park _) = waiting true
+about (At.WalkTail k seen current) = walking k seen (walk (walkKindOf k seen) (toNode seen .0) (current .0))
+about (At.WalkNext k seen current) = walking k seen (past (walkKindOf k seen) (toNode seen .0) (current .0))
+about (At.WalkPrev k seen current next) =
+    walking k seen (link (walkKindOf k seen) (toNode seen .0) (current .0) (next .0))
+about (At.WalkHead k seen tail) = walking k seen (head (walkKindOf k seen) (toNode seen .0) (tail .0))
+about (At.QueueCas who seen) = owning who seen none (handsOff seen)
+about (At.SplitPrev who seen tail) = owning who seen (head changes (toNode seen .0) (tail .0)) (unheld seen)
+about (At.SplitStore who seen tail prev) = owning who seen (split (toNode seen .0) (tail .0) (prev .0)) (unheld seen)
+about (At.SplitCas who seen tail) = owning who seen (aside (toNode seen .0) (tail .0)) (unheld seen)
+about (At.SplitRestore who seen tail reported) =
+    owning who seen (undo (toNode seen .0) (tail .0) (toNode reported .0)) (unheld seen)
+about (At.TakeCas who seen tail) = owning who seen (head changes (toNode seen .0) (tail .0)) (not (handsOff seen))
+about (At.WakePrev who current) = waking who (wake (current .0))
+about (At.WakeStore who current prev) = waking who (store (current .0) (prev .0))
+about At.ReadUnlockLoad = offQueue reads false false false
+about (At.ReadUnlockCas _) = offQueue reads false false false
+about (At.Subtract seen tail) = walking ReadUnlock seen (head looks (toNode seen .0) (tail .0))
+about At.WriteUnlockCas = offQueue writes false false false
+about (At.ReleaseCas _) = offQueue notRead true true false
+about At.DowngradeCas = offQueue writes false false false
+about (At.DowngradeSlowCas _) = offQueue writes false true false
 
 -- ── the machine as functions: of threads, and of node numbers ──
 
@@ -245,6 +251,9 @@ waitOf th nd (suc t) = pick (about (th t .place) .registered) (not (nd (suc t) .
 
 abbrev pub roleOf : (ℕ → Thread) → ℕ → Role
 roleOf th t = about (th t .place) .role
+
+pub same-role : {p q : Place} → p ≡ q → about p .role ≡ about q .role
+same-role e = ap (λ p. about p .role) e
 
 -- ── holders, through what they read and write ──
 

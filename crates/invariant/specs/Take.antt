@@ -1,8 +1,10 @@
--- A queue is taken off whole: by its owner's compare to 17 or 0, or by a downgrade's to 17 on a queue that nobody owns. Assumes nothing.
+-- A queue is taken off whole: by its owner's compare to 17 or 0, or by a downgrade's to 17 on a queue that nobody
+-- owns.
+-- Assumes nothing.
 use Prim.Native.Nat.{ℕ, suc, _+_, _*_, _≤_, _<_}
 use mathlib.Core.Bool.{Bool, true, false, not}
 use mathlib.Core.Logic.{_≢_, _⊎_, inl, inr}
-use mathlib.Core.Path.{_≡_, refl, sym, ap, _∙_, subst}
+use mathlib.Core.Path.{_≡_, refl, ap, _∙_, subst}
 use native.Mathlib.Omega.{arith}
 use Rattle.word.specs.Base.{pick}
 use Rattle.word.specs.Cases.{pick-both}
@@ -10,36 +12,36 @@ use Rattle.word.specs.Flags.{word, LOCKED, SINGLE, locked, queued, queueLocked,
 use Rattle.word.specs.Rules.{takenOf}
 use Rattle.word.specs.declared.flags.Word.{Word}
 use Rattle.word.specs.declared.number.NodeNumber.{NodeNumber}
-use Rattle.word.specs.declared.number.ThreadNumber.{ThreadNumber}
 use Rattle.state.specs.Holding.{readsOf, writesOf}
-use Rattle.state.specs.View.{agreesOf}
 use Rattle.state.specs.declared.machine.Thread.{Thread}
 use Rattle.state.specs.declared.place.Place.the-variants.{TakeCas, WakePrev}
 use Rattle.state.specs.declared.place.Who.{Who}
-use Rattle.state.specs.declared.view.Mark.{Mark}
 use Rattle.unlock.specs.UnlockQueue.{takeCasOf}
 use Rattle.queue.specs.Tests.{never}
-use Rattle.queue.specs.Tickets.{Ghost, took, queueOf as ticketsOf, takenOf as taken}
+use Rattle.queue.specs.Tickets.{Ghost, took, ticketsOf, takenBy as taken}
 use Rattle.queue.specs.Queue.{Full}
 use Rattle.queue.specs.Roles.{head, filled, changes, HeadAt}
 use Rattle.queue.specs.Invariant as Q
 use Rattle.queue.specs.Walking
 use Rattle.queue.specs.Taking
-use Rattle.invariant.specs.Table.{handsOff, writes, owning, about, Lock, aboutAt, linksOf, waitOf, Allowed, weight, leaver}
-use Rattle.invariant.specs.Invariant.{readers, writers, leavers, Hold, Unqueued, empty, read, Newest, queueOf, Inv}
-use Rattle.invariant.specs.Beside.{inside, owned, unowned, is-queued, lonely, nobody-needs}
-use Rattle.invariant.specs.Frames.{moved, waits-as, view, land}
+use Rattle.invariant.specs.Table.{handsOff, writes, owning, about, Lock, aboutAt, linksOf, Allowed, weight}
+use Rattle.invariant.specs.Table.{leaver, same-role}
+use Rattle.invariant.specs.Invariant.{readers, writers, leavers, Hold, Unqueued, empty, read, Newest, queueOf}
+use Rattle.invariant.specs.Invariant.{Inv}
+use Rattle.invariant.specs.Exclusion.{inside, owned, unowned, is-queued, lonely, nobody-needs}
+use Rattle.invariant.specs.Frames.{moved, land, viewed-still}
 use Rattle.invariant.specs.Moves.{takes-all, take-fails}
-use Rattle.invariant.specs.Kept.{lookAt, Kept, kept-still, placed, Goes}
+use Rattle.invariant.specs.Kept.{kept-still, placed, Goes, Setting, mine, movedTo, kept-compare}
 use Rattle.invariant.specs.Owner.{again}
 use Rattle.invariant.specs.Split.{may-wake}
-use Rattle.invariant.specs.Words.{Plain, agreed, readers-word}
+use Rattle.invariant.specs.Words.{Plain, readers-word}
 
 -- ── the word is unqueued again, and the queue is thread t's ──
 
-module _ (n : ℕ) (s : Lock) (g : Ghost) (i : Inv n s g) (t : ℕ) (tin : t < n) (w : Word) (x : Thread) (p : Plain w) where
+module _ {n : ℕ} {s : Lock} {g : Ghost} (i : Inv n s g) (t : ℕ) (tin : t < n) (w : Word) (x : Thread)
+    (p : Plain w) where
   pub record Takes : Type 0 where
-    pub queue : Q.Inv (took g t) (Q.moved (queueOf s) t (linksOf (s .nd)) (waitOf (s .th) (s .nd)) (about (x .place) .role))
+    pub queue : Q.Inv (took g t) (Q.turned (queueOf s) t (about (x .place) .role))
     pub registered : about (x .place) .registered ≡ aboutAt s t .registered
     pub owner : about (x .place) .owner ≡ false
     pub owned : weight (queueLocked (s .word)) ≡ weight (aboutAt s t .owner)
@@ -47,14 +49,15 @@ module _ (n : ℕ) (s : Lock) (g : Ghost) (i : Inv n s g) (t : ℕ) (tin : t < n
     pub needs : about (x .place) .needsQueue ≡ false
     pub needed : (u : ℕ) → u ≢ t → aboutAt s u .needsQueue ≡ true → ⊥
     pub count : (r v l : ℕ) → r + readsOf (s .th t .holding) ≡ readers n s + readsOf (x .holding)
-        → v + writesOf (s .th t .holding) ≡ writers n s + writesOf (x .holding) → l + leaver (s .th t) ≡ leavers n s + leaver x → Unqueued w r v l
+        → v + writesOf (s .th t .holding) ≡ writers n s + writesOf (x .holding)
+        → l + leaver (s .th t) ≡ leavers n s + leaver x → Unqueued w r v l
     pub fits : about (x .place) .ok ≡ true
     pub unfilled : filled (about (x .place) .role) ≡ false
     pub asleep : about (x .place) .asleep ≡ false
 
-  pub take : Takes → Inv n (moved s t w x (s .nd)) (took g t)
-  take c = land n s g (took g t) t w x (s .nd) i (record {
-    queue = subst (λ z. Q.Inv (took g t) z) (sym (view s t x (s .nd) w (linksOf (s .nd)) (waitOf (s .th) (s .nd)) refl (waits-as s t x (s .nd) (waitOf (s .th) (s .nd)) refl (rw (c .registered)) (λ u ne. refl)))) (c .queue);
+  pub takes-whole : Takes → Inv n (moved s t w x (s .nd)) (took g t)
+  takes-whole c = land i (took g t) t w x (s .nd) (record {
+    queue = viewed-still s t x w (c .registered) (c .queue);
     newest = λ e. never (p .unqueued) e;
     nobody = λ e. refl;
     handed = λ e. never (p .unqueued) e;
@@ -62,7 +65,14 @@ module _ (n : ℕ) (s : Lock) (g : Ghost) (i : Inv n s g) (t : ℕ) (tin : t < n
     inside = tin;
     owner = rw (c .owner, p .unowned) (omega (arith, c .owned));
     may = c .may;
-    count = λ r v l er ev el. record { bare = λ e. c .count r v l er ev el; unlocked = λ e. never (p .unqueued) e; handed = λ e. never (p .unqueued) e; held = λ e. never (p .unqueued) e };
+    count =
+        λ r v l er ev el.
+        record {
+          bare = λ e. c .count r v l er ev el;
+          unlocked = λ e. never (p .unqueued) e;
+          handed = λ e. never (p .unqueued) e;
+          held = λ e. never (p .unqueued) e;
+        };
     needs = never (c .needs);
     needs-all = λ u ne e. absurd (c .needed u ne e);
     plain = λ e. p .plain;
@@ -80,7 +90,10 @@ module _ (n : ℕ) (s : Lock) (g : Ghost) (i : Inv n s g) (t : ℕ) (tin : t < n
 
 -- ── the owner's ──
 
-module _ (n : ℕ) (s : Lock) (g : Ghost) (i : Inv n s g) (me : ThreadNumber) (tin : me .0 < n) (mark : Mark) (fails : Bool) (who : Who) (seen : Word) (tail : NodeNumber) (here : s .th (me .0) .place ≡ TakeCas who seen tail) where
+module _ (st : Setting) (who : Who) (seen : Word) (tail : NodeNumber)
+    (here : mine st .place ≡ TakeCas who seen tail) where
+  open Setting st using (n, s, g, i, me, tin)
+
   is : aboutAt s (me .0) ≡ owning who seen (head changes (toNode seen .0) (tail .0)) (not (handsOff seen))
   is = ap about here
 
@@ -95,20 +108,22 @@ module _ (n : ℕ) (s : Lock) (g : Ghost) (i : Inv n s g) (me : ThreadNumber) (t
   knows = rw is at (i .queue .know (me .0))
 
   has-queue : queued (s .word) ≡ true
-  has-queue = let f : Full (ticketsOf g) (linksOf (s .nd)) (knows .h) = knows .way in is-queued n s g i (omega arith)
+  has-queue = let f : Full (ticketsOf g) (linksOf (s .nd)) (knows .h) = knows .way in is-queued i (omega arith)
 
   -- thread t's holding and the leavers stay: what the word becomes is what holds already
   take-to : s .word ≡ seen → (w : Word) → Plain w → writers n s ≡ 0 → leavers n s ≡ 0
       → ((w .0 ≡ 0) × (readers n s ≡ 0)) ⊎ ((w .0 ≡ SINGLE * readers n s + LOCKED) × (1 ≤ readers n s))
-      → Inv n (moved s (me .0) w (placed (s .th (me .0)) (WakePrev who tail)) (s .nd)) (took g (me .0))
-  take-to same w p w0 l0 rs = take n s g i (me .0) tin w (placed (s .th (me .0)) (WakePrev who tail)) p (record {
-    queue = Taking.take g (queueOf s) (i .queue) (me .0) (toNode seen .0) (tail .0) (v .ticket) (ap (λ a. a .role) is) (lonely n s g i (me .0) (rw is refl) (rw is hands-on)) (v .last) (v .node ∙ ap (λ y. toNode y .0) same);
+      → Inv n (movedTo st w (placed (mine st) (WakePrev who tail))) (took g (me .0))
+  take-to same w p w0 l0 rs = takes-whole i (me .0) tin w (placed (mine st) (WakePrev who tail)) p (record {
+    queue =
+        Taking.take (i .queue) (me .0) (v .ticket) (same-role here)
+        (lonely i (me .0) (rw is refl) (rw is hands-on)) (v .last) (v .node ∙ ap (λ y. toNode y .0) same);
     registered = rw is;
     owner = refl;
-    owned = rw (owned n s g i (me .0) (rw is refl), is);
-    may = may-wake who (s .th (me .0) .holding) (rw is at (i .holding (me .0)));
+    owned = rw (owned i (me .0) (rw is refl), is);
+    may = may-wake who (mine st .holding) (rw is at (i .holding (me .0)));
     needs = refl;
-    needed = λ u ne. nobody-needs n s g i w0 l0 u;
+    needed = λ u ne. nobody-needs i w0 l0 u;
     count = λ r v l er ev el. counts r v l er ev (rw is at el) rs;
     fits = refl;
     unfilled = refl;
@@ -118,33 +133,50 @@ module _ (n : ℕ) (s : Lock) (g : Ghost) (i : Inv n s g) (me : ThreadNumber) (t
       v : Newest g (s .word)
       v = i .newest has-queue
 
-      counts : (r v l : ℕ) → r + readsOf (s .th (me .0) .holding) ≡ readers n s + readsOf (s .th (me .0) .holding)
-          → v + writesOf (s .th (me .0) .holding) ≡ writers n s + writesOf (s .th (me .0) .holding) → l + 0 ≡ leavers n s + 0
-          → ((w .0 ≡ 0) × (readers n s ≡ 0)) ⊎ ((w .0 ≡ SINGLE * readers n s + LOCKED) × (1 ≤ readers n s)) → Unqueued w r v l
-      counts r v l er ev el (inl z) = empty (z .0) (record { reads = omega arith; writes = omega arith; leaves = omega arith })
-      counts r v l er ev el (inr z) = let e : r ≡ readers n s = omega arith in read (rw e (z .0)) (omega arith) (record { reads = refl; writes = omega arith; leaves = omega arith })
+      counts : (r v l : ℕ) → r + readsOf (mine st .holding) ≡ readers n s + readsOf (mine st .holding)
+          → v + writesOf (mine st .holding) ≡ writers n s + writesOf (mine st .holding) → l + 0 ≡ leavers n s + 0
+          → ((w .0 ≡ 0) × (readers n s ≡ 0)) ⊎ ((w .0 ≡ SINGLE * readers n s + LOCKED) × (1 ≤ readers n s))
+          → Unqueued w r v l
+      counts r v l er ev el (inl z) =
+          empty (z .0) (record { reads = omega arith; writes = omega arith; leaves = omega arith })
+      counts r v l er ev el (inr z) =
+          let e : r ≡ readers n s = omega arith in
+          read (rw e (z .0)) (omega arith) (record { reads = refl; writes = omega arith; leaves = omega arith })
 
-  takes : s .word ≡ seen → Inv n (moved s (me .0) (takenOf (s .word)) (placed (s .th (me .0)) (WakePrev who tail)) (s .nd)) (took g (me .0))
-  takes same = pick-both (λ w. Inv n (moved s (me .0) w (placed (s .th (me .0)) (WakePrev who tail)) (s .nd)) (took g (me .0))) (downgraded (s .word)) (word (SINGLE + LOCKED)) (word 0) handed free
+  takes : s .word ≡ seen
+      → Inv n (movedTo st (takenOf (s .word)) (placed (mine st) (WakePrev who tail))) (took g (me .0))
+  takes same = pick-both (λ w. Inv n (movedTo st w (placed (mine st) (WakePrev who tail))) (took g (me .0)))
+      (downgraded (s .word)) (word (SINGLE + LOCKED)) (word 0) handed free
     where
       -- DOWNGRADED: one reader holds
-      handed : downgraded (s .word) ≡ true → Inv n (moved s (me .0) (word (SINGLE + LOCKED)) (placed (s .th (me .0)) (WakePrev who tail)) (s .nd)) (took g (me .0))
+      handed : downgraded (s .word) ≡ true
+          → Inv n (movedTo st (word (SINGLE + LOCKED)) (placed (mine st) (WakePrev who tail)))
+          (took g (me .0))
       handed d =
-          let c : Hold (readers n s) (writers n s) (leavers n s) 1 0 0 = i .count .handed has-queue (i .handed has-queue d .1) d in
-          take-to same (word (SINGLE + LOCKED)) (readers-word (word (SINGLE + LOCKED)) 1 refl .is) (c .writes) (c .leaves) (inr (omega arith, omega arith))
+          let c : Hold (readers n s) (writers n s) (leavers n s) 1 0 0 = i .count .handed has-queue
+          (i .handed has-queue d .1) d in
+          take-to same (word (SINGLE + LOCKED)) (readers-word (word (SINGLE + LOCKED)) 1 refl .is) (c .writes)
+          (c .leaves) (inr (omega arith, omega arith))
 
       -- else, as it did not see hands off, nobody holds
-      free : downgraded (s .word) ≡ false → Inv n (moved s (me .0) (word 0) (placed (s .th (me .0)) (WakePrev who tail)) (s .nd)) (took g (me .0))
+      free : downgraded (s .word) ≡ false
+          → Inv n (movedTo st (word 0) (placed (mine st) (WakePrev who tail))) (took g (me .0))
       free d =
-          let c : Hold (readers n s) (writers n s) (leavers n s) 0 0 0 = i .count .unlocked has-queue (unlocked (locked (s .word)) (downgraded (s .word)) (ap handsOff same ∙ hands-on) d) in
-          take-to same (word 0) (record { unqueued = refl; unowned = refl; plain = refl }) (c .writes) (c .leaves) (inl (refl, c .reads))
+          let c : Hold (readers n s) (writers n s) (leavers n s) 0 0 0 = i .count .unlocked has-queue
+          (unlocked (locked (s .word)) (downgraded (s .word)) (ap handsOff same ∙ hands-on) d) in
+          take-to same (word 0) (record { unqueued = refl; unowned = refl; plain = refl }) (c .writes) (c .leaves)
+          (inl (refl, c .reads))
         where
           unlocked : (a d : Bool) → pick a (not d) false ≡ false → d ≡ false → a ≡ false
           unlocked false d e z = refl
           unlocked true true e z = never z refl
           unlocked true false e z = never e refl
 
-  pub kept-take-cas : Goes n s g me mark fails (suc (me .0)) (λ v. takeCasOf v who seen tail)
-  kept-take-cas = pick-both (Kept n s g me (suc (me .0))) (agreesOf (lookAt s me (suc (me .0)) mark fails) seen) _ _
-      (λ e. let same : s .word ≡ seen = agreed (lookAt s me (suc (me .0)) mark fails) seen e in kept-still n s g me (suc (me .0)) _ _ _ (takes-all me g _ who seen tail here _ (record { none = knows .ground; is = refl })) (subst (λ y. Inv n (moved s (me .0) (takenOf y) (placed (s .th (me .0)) (WakePrev who tail)) (s .nd)) (took g (me .0))) same (takes same)))
-      (λ _. kept-still n s g me (suc (me .0)) _ _ g (take-fails me g _ who seen tail here _ _ _) (again n s g i me tin mark fails who seen _ _ is (Walking.leave g (queueOf s) (i .queue) (me .0) changes refl (toNode seen .0) (tail .0) (ap (λ a. a .role) is))))
+  pub kept-take-cas : Goes st (suc (me .0)) (λ v. takeCasOf v who seen tail)
+  kept-take-cas = kept-compare st (suc (me .0)) seen _ _
+      (λ same. kept-still st (suc (me .0)) _ _ _ (takes-all me g here _ (record { none = knows .ground; is = refl }))
+      (subst (λ y. Inv n (movedTo st (takenOf y) (placed (mine st) (WakePrev who tail)))
+      (took g (me .0))) same (takes same)))
+      (kept-still st (suc (me .0)) _ _ g (take-fails me g here _ _ _)
+      (again st who seen _ _ is
+      (Walking.leave (i .queue) (me .0) refl (same-role here))))

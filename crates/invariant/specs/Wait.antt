@@ -1,65 +1,74 @@
--- A registered thread waits: load completed, park. Each place's rule keeps the invariant. Assumes nothing.
-use Prim.Native.Nat.{ℕ, suc, _<_}
+-- A registered thread waits: load completed, park. Each place's rule keeps the invariant.
+-- Assumes nothing.
+use Prim.Native.Nat.{suc}
 use mathlib.Core.Bool.{Bool, true, false}
 use mathlib.Core.Logic.{inl, inr}
-use mathlib.Core.Path.{_≡_, refl, sym, ap, subst}
+use mathlib.Core.Path.{_≡_, refl, ap}
 use Rattle.word.specs.Cases.{pick-both}
-use Rattle.word.specs.declared.number.ThreadNumber.{ThreadNumber}
 use Rattle.state.specs.declared.machine.Thread.{Thread}
 use Rattle.state.specs.declared.place.Place.{Place}
 use Rattle.state.specs.declared.place.Place.the-variants.{ContendLoad, CompletedLoad, Park}
-use Rattle.state.specs.declared.view.Mark.{Mark}
 use Rattle.acquire.specs.Wait.{completedLoadOf, parkOf}
 use Rattle.queue.specs.Tests.{never}
 use Rattle.queue.specs.Updates.{upd}
-use Rattle.queue.specs.Tickets.{Ghost}
 use Rattle.queue.specs.Roles.{none}
 use Rattle.queue.specs.Invariant as Q
-use Rattle.invariant.specs.Table.{waiting, about, Lock, aboutAt, linksOf, waitOf, Free}
+use Rattle.invariant.specs.Table.{waiting, about, aboutAt, linksOf, waitOf, Free}
 use Rattle.invariant.specs.Invariant.{queueOf, Inv}
-use Rattle.invariant.specs.Frames.{moved, waits-as, view, stay}
-use Rattle.invariant.specs.Moves.{stood}
-use Rattle.invariant.specs.Kept.{Kept, kept-still, placed, Goes}
+use Rattle.invariant.specs.Frames.{waits-as, stay, viewed}
+use Rattle.invariant.specs.Kept.{Kept, placed, Goes, Setting, mine, goneTo, kept-stood, movedTo}
 
-module _ (n : ℕ) (s : Lock) (g : Ghost) (i : Inv n s g) (me : ThreadNumber) (tin : me .0 < n) (mark : Mark) (fails : Bool) where
+module _ (st : Setting) where
+  open Setting st using (n, s, g, i, me, tin)
+
   module _ (asleep : Bool) (told : aboutAt s (me .0) ≡ waiting asleep) where
-    nothing : Free (s .th (me .0) .holding)
+    nothing : Free (mine st .holding)
     nothing = rw told at (i .holding (me .0))
 
     -- its role is none, before and after
-    queue : (x : Thread) → about (x .place) .role ≡ none → waitOf (upd (s .th) (me .0) x) (s .nd) ≡ waitOf (s .th) (s .nd)
-        → Q.Inv g (queueOf (moved s (me .0) (s .word) x (s .nd)))
+    queue : (x : Thread) → about (x .place) .role ≡ none
+        → waitOf (upd (s .th) (me .0) x) (s .nd) ≡ waitOf (s .th) (s .nd)
+        → Q.Inv g (queueOf (movedTo st (s .word) x))
     queue x none-after same =
-        subst (λ z. Q.Inv g z) (sym (view s (me .0) x (s .nd) (s .word) (linksOf (s .nd)) (waitOf (s .th) (s .nd)) refl same))
-        (rw none-after (Q.turn g (queueOf s) (i .queue) (me .0) none (rw told at (i .queue .know (me .0))) (never refl)))
+        viewed s (me .0) x (s .nd) (s .word) (linksOf (s .nd)) (waitOf (s .th) (s .nd)) refl same
+        (rw none-after
+        (Q.turn g (queueOf s) (i .queue) (me .0) none (rw told at (i .queue .know (me .0))) (never refl)))
 
     -- it waits on, with a token or without
     waits-on : (q : Place) (token asleep′ : Bool) → about q ≡ waiting asleep′
         → (asleep′ ≡ true → s .nd (suc (me .0)) .completed ≡ true → token ≡ true)
-        → Inv n (moved s (me .0) (s .word) (record { place = q; token = token; holding = s .th (me .0) .holding }) (s .nd)) g
-    waits-on q token asleep′ on called = stay n s g (me .0) (record { place = q; token = token; holding = s .th (me .0) .holding }) (s .nd) i (record {
-      queue = queue (record { place = q; token = token; holding = s .th (me .0) .holding }) (rw on) (waits-as s (me .0) (record { place = q; token = token; holding = s .th (me .0) .holding }) (s .nd) (waitOf (s .th) (s .nd)) refl (rw (on, told)) (λ u ne. refl));
-      inside = tin;
-      holding = refl;
-      completed = λ u ne. refl;
-      next = λ r. refl;
-      owner = rw (on, told);
-      leaving = rw (on, told);
-      may = rw on nothing;
-      needs = rw on (never refl);
-      plain = rw on (never refl);
-      calm = λ r. rw on (never refl);
-      fits = rw on;
-      clear = rw on (never refl);
-      token = rw on called;
-      contending = rw told (never refl);
-      called = λ e d. inl (rw on, d);
-    })
+        → Inv n (movedTo st (s .word) (record { place = q; token = token; holding = mine st .holding })) g
+    waits-on q token asleep′ on called = stay n s g (me .0)
+        (record { place = q; token = token; holding = mine st .holding }) (s .nd) i (record {
+          queue =
+              queue (record { place = q; token = token; holding = mine st .holding }) (rw on)
+              (waits-as s (me .0) (record { place = q; token = token; holding = mine st .holding }) (s .nd)
+              (waitOf (s .th) (s .nd)) refl (rw (on, told)) (λ u ne. refl));
+          inside = tin;
+          holding = refl;
+          completed = λ u ne. refl;
+          next = λ r. refl;
+          owner = rw (on, told);
+          leaving = rw (on, told);
+          may = rw on nothing;
+          needs = rw on (never refl);
+          plain = rw on (never refl);
+          calm = λ r. rw on (never refl);
+          fits = rw on;
+          clear = rw on (never refl);
+          token = rw on called;
+          contending = rw told (never refl);
+          called = λ e d. inl (rw on, d);
+        })
 
     -- completed: it starts again
-    starts-again : (writer : Bool) → s .nd (suc (me .0)) .completed ≡ true → Inv n (moved s (me .0) (s .word) (placed (s .th (me .0)) (ContendLoad writer 0)) (s .nd)) g
-    starts-again writer done = stay n s g (me .0) (placed (s .th (me .0)) (ContendLoad writer 0)) (s .nd) i (record {
-      queue = queue (placed (s .th (me .0)) (ContendLoad writer 0)) refl (waits-as s (me .0) (placed (s .th (me .0)) (ContendLoad writer 0)) (s .nd) (waitOf (s .th) (s .nd)) refl (rw (told, done)) (λ u ne. refl));
+    starts-again : (writer : Bool) → s .nd (suc (me .0)) .completed ≡ true
+        → Inv n (goneTo st (ContendLoad writer 0) (s .nd)) g
+    starts-again writer done = stay n s g (me .0) (placed (mine st) (ContendLoad writer 0)) (s .nd) i (record {
+      queue =
+          queue (placed (mine st) (ContendLoad writer 0)) refl
+          (waits-as s (me .0) (placed (mine st) (ContendLoad writer 0)) (s .nd) (waitOf (s .th) (s .nd)) refl
+          (rw (told, done)) (λ u ne. refl));
       inside = tin;
       holding = refl;
       completed = λ u ne. refl;
@@ -77,12 +86,16 @@ module _ (n : ℕ) (s : Lock) (g : Ghost) (i : Inv n s g) (me : ThreadNumber) (t
       called = λ e d. inr refl;
     })
 
-  pub kept-completed-load : (writer : Bool) → s .th (me .0) .place ≡ CompletedLoad writer → Goes n s g me mark fails (suc (me .0)) (λ v. completedLoadOf v writer)
-  kept-completed-load writer here = pick-both (Kept n s g me (suc (me .0))) (s .nd (suc (me .0)) .completed) _ _
-      (λ e. kept-still n s g me (suc (me .0)) _ _ g (stood me g _ (CompletedLoad writer) here refl _ refl) (starts-again false (ap about here) writer e))
-      (λ e. kept-still n s g me (suc (me .0)) _ _ g (stood me g _ (CompletedLoad writer) here refl _ refl) (waits-on false (ap about here) (Park writer) _ true refl (λ _ d. never e d)))
+  pub kept-completed-load : (writer : Bool) → mine st .place ≡ CompletedLoad writer
+      → Goes st (suc (me .0)) (λ v. completedLoadOf v writer)
+  kept-completed-load writer here = pick-both (Kept st (suc (me .0))) (s .nd (suc (me .0)) .completed) _ _
+      (λ e. kept-stood st (suc (me .0)) here refl _ _ refl (starts-again false (ap about here) writer e))
+      (λ e. kept-stood st (suc (me .0)) here refl _ _ refl
+      (waits-on false (ap about here) (Park writer) _ true refl (λ _ d. never e d)))
 
-  pub kept-park : (writer : Bool) → s .th (me .0) .place ≡ Park writer → Goes n s g me mark fails (suc (me .0)) (λ v. parkOf v writer)
-  kept-park writer here = pick-both (Kept n s g me (suc (me .0))) fails _ _
-      (λ e. kept-still n s g me (suc (me .0)) _ _ g (stood me g _ (Park writer) here refl _ refl) (waits-on true (ap about here) (CompletedLoad writer) _ false refl (never refl)))
-      (λ e. kept-still n s g me (suc (me .0)) _ _ g (stood me g _ (Park writer) here refl _ refl) (waits-on true (ap about here) (CompletedLoad writer) _ false refl (never refl)))
+  pub kept-park : (writer : Bool) → mine st .place ≡ Park writer → Goes st (suc (me .0)) (λ v. parkOf v writer)
+  kept-park writer here = pick-both (Kept st (suc (me .0))) (st .fails) _ _
+      (λ e. kept-stood st (suc (me .0)) here refl _ _ refl
+      (waits-on true (ap about here) (CompletedLoad writer) _ false refl (never refl)))
+      (λ e. kept-stood st (suc (me .0)) here refl _ _ refl
+      (waits-on true (ap about here) (CompletedLoad writer) _ false refl (never refl)))

@@ -1,2 +1,3 @@
-// Theorems only: an invariant of the lock, that a fresh machine has it and that every event keeps it, over the rules in lock's
-// specs. Read specs/Table.antt and specs/Invariant.antt first; docs/PROMISES.md says how the files follow.
+// Theorems only: an invariant of the lock, that a fresh machine has it and that every event keeps it, over the rules in
+// lock's specs. Read specs/Table.antt and specs/Invariant.antt first; specs/Lib.antt explains the words, and
+// docs/PROMISES.md says how the files follow.

@@ -1,7 +1,9 @@
--- One queue of waiters by tickets, and what each store to a link does to it.
--- Ticket i is the i-th registration ever, log i its node; a queue is the tickets lo .. hi - 1, oldest first, and fl a ticket at and above
--- which every tail that is set is right. In this order: what a queue is, who walks it; frame; store of prev; store of a tail; register; set aside; restore.
--- Not here: which thread holds which tickets (Tickets), what a thread knows at its place (Roles). Assumes nothing.
+-- One queue of waiters by tickets, and what each store to a link does to it. Ticket i is the i-th registration ever,
+-- log i its node; a queue is the tickets lo .. hi - 1, oldest first, and fl a ticket at and above which every tail
+-- that is set is right. In this order: what a queue is, who walks it; frame; store of prev; store of a tail;
+-- register; set aside; restore. Not here: which thread holds which tickets (Tickets), what a thread knows at its
+-- place (Roles).
+-- Assumes nothing.
 use mathlib.Core.Path.{_≡_, sym, _∙_}
 use mathlib.Core.Logic.{_≢_, _⊎_, inl, inr}
 use Prim.Native.Nat.{ℕ, suc, _/_, _≤_, _<_}
@@ -15,8 +17,8 @@ pub record Links : Type 0 where
   pub pv : ℕ → ℕ
   pub tl : ℕ → ℕ
 
-abbrev pub linkOf : ℕ → ℕ
-linkOf w = w / 16
+abbrev pub linkIn : ℕ → ℕ
+linkIn w = w / 16
 
 abbrev pub setNx : Links → ℕ → ℕ → Links
 setNx l k x = record { nx = upd (l .nx) k x; pv = l .pv; tl = l .tl }
@@ -27,40 +29,40 @@ setPv l k x = record { nx = l .nx; pv = upd (l .pv) k x; tl = l .tl }
 abbrev pub setTl : Links → ℕ → ℕ → Links
 setTl l k x = record { nx = l .nx; pv = l .pv; tl = upd (l .tl) k x }
 
-pub record Part : Type 0 where
+pub record Interval : Type 0 where
   pub log : ℕ → ℕ
   pub lo : ℕ
   pub hi : ℕ
   pub fl : ℕ
 
 -- the tickets of a queue have nodes, each its own
-pub record Live (q : Part) : Type 0 where
+pub record Live (q : Interval) : Type 0 where
   pub apart : (i j : ℕ) → q .lo ≤ i → i < q .hi → q .lo ≤ j → j < q .hi → i ≢ j → q .log i ≢ q .log j
   pub some : (i : ℕ) → q .lo ≤ i → i < q .hi → q .log i ≢ 0
 
 -- the backlinks of the tickets a .. b - 1
-abbrev pub Back : Part → Links → ℕ → ℕ → Type 0
+abbrev pub Back : Interval → Links → ℕ → ℕ → Type 0
 Back q l a b = (j : ℕ) → a ≤ j → j < b → l .pv (q .log j) ≡ q .log (suc j)
 
 -- ticket i's node has the tail, and the backlinks below it are there
-abbrev pub Set : Part → Links → ℕ → Type 0
+abbrev pub Set : Interval → Links → ℕ → Type 0
 Set q l i = (l .tl (q .log i) ≡ q .log (q .lo)) × Back q l (q .lo) i
 
 -- no backlink at ticket h nor above
-abbrev pub Clean : Part → Links → ℕ → Type 0
+abbrev pub Clean : Interval → Links → ℕ → Type 0
 Clean q l h = (i : ℕ) → h ≤ i → i < q .hi → l .pv (q .log i) ≡ 0
 
-pub record Queue (q : Part) (l : Links) : Type 0 where
+pub record Queue (q : Interval) (l : Links) : Type 0 where
   pub base : q .lo ≤ q .fl
   pub high : q .fl ≤ q .hi
   pub span : q .lo < q .hi → q .fl < q .hi
-  pub next : (i : ℕ) → q .lo ≤ i → suc i < q .hi → linkOf (l .nx (q .log (suc i))) ≡ q .log i
+  pub next : (i : ℕ) → q .lo ≤ i → suc i < q .hi → linkIn (l .nx (q .log (suc i))) ≡ q .log i
   pub floor : q .lo < q .hi → Set q l (q .fl)
   pub valid : (i : ℕ) → q .fl ≤ i → i < q .hi → (l .tl (q .log i) ≡ 0) ⊎ Set q l i
   pub newest : (p : ℕ) → suc p ≡ q .hi → q .lo ≤ p → l .pv (q .log p) ≡ 0
 
 -- a walker that began at ticket h and stands at c
-pub record Walk (q : Part) (l : Links) (h c : ℕ) : Type 0 where
+pub record Walker (q : Interval) (l : Links) (h c : ℕ) : Type 0 where
   pub base : q .lo ≤ q .fl
   pub low : q .fl ≤ c
   pub mid : c ≤ h
@@ -68,50 +70,60 @@ pub record Walk (q : Part) (l : Links) (h c : ℕ) : Type 0 where
   pub back : Back q l c h
 
 -- a walker that has found the tail from ticket h
-pub record Full (q : Part) (l : Links) (h : ℕ) : Type 0 where
+pub record Full (q : Interval) (l : Links) (h : ℕ) : Type 0 where
   pub base : q .lo ≤ q .fl
   pub low : q .fl ≤ h
   pub top : h < q .hi
   pub back : Back q l (q .lo) h
 
 -- a waker's list from ticket a: oldest first by prev, ending in none
-pub record Mine (q : Part) (l : Links) (a : ℕ) : Type 0 where
+pub record Mine (q : Interval) (l : Links) (a : ℕ) : Type 0 where
   pub back : (j : ℕ) → a ≤ j → suc j < q .hi → l .pv (q .log j) ≡ q .log (suc j)
   pub newest : (p : ℕ) → suc p ≡ q .hi → a ≤ p → l .pv (q .log p) ≡ 0
 
 -- ── frame: links that agree on a queue's nodes ──
 
-pub record Agree (q : Part) (log′ : ℕ → ℕ) (l l′ : Links) : Type 0 where
+pub record Agree (q : Interval) (log′ : ℕ → ℕ) (l l′ : Links) : Type 0 where
   pub log : (i : ℕ) → q .lo ≤ i → i < q .hi → log′ i ≡ q .log i
   pub nx : (i : ℕ) → q .lo ≤ i → i < q .hi → l′ .nx (q .log i) ≡ l .nx (q .log i)
   pub pv : (i : ℕ) → q .lo ≤ i → i < q .hi → l′ .pv (q .log i) ≡ l .pv (q .log i)
   pub tl : (i : ℕ) → q .lo ≤ i → i < q .hi → l′ .tl (q .log i) ≡ l .tl (q .log i)
 
-abbrev pub relog : Part → (ℕ → ℕ) → Part
+abbrev pub relog : Interval → (ℕ → ℕ) → Interval
 relog q log′ = record { log = log′; lo = q .lo; hi = q .hi; fl = q .fl }
 
-module _ (q : Part) (log′ : ℕ → ℕ) (l l′ : Links) (s : Agree q log′ l l′) where
+module _ {q : Interval} {log′ : ℕ → ℕ} {l l′ : Links} (s : Agree q log′ l l′) where
   pv-agree : (i v : ℕ) → q .lo ≤ i → i < q .hi → l .pv (q .log i) ≡ v → l′ .pv (log′ i) ≡ v
   pv-agree i v a b e = rw (s .log i a b, s .pv i a b) e
 
   pub back-agree : (a b : ℕ) → q .lo ≤ a → b < q .hi → Back q l a b → Back (relog q log′) l′ a b
-  back-agree a b al bh k j x y = pv-agree j _ (omega arith) (omega arith) (k j x y) ∙ sym (s .log (suc j) (omega arith) (omega arith))
+  back-agree a b al bh k j x y =
+      pv-agree j _ (omega arith) (omega arith) (k j x y) ∙ sym (s .log (suc j) (omega arith) (omega arith))
 
   set-agree : (i : ℕ) → q .lo ≤ i → i < q .hi → Set q l i → Set (relog q log′) l′ i
-  set-agree i a b k = (rw (s .log i a b, s .tl i a b, s .log (q .lo) (omega arith) (omega arith)) (k .0), back-agree (q .lo) i (omega arith) b (k .1))
+  set-agree i a b k = (
+    rw (s .log i a b, s .tl i a b, s .log (q .lo) (omega arith) (omega arith)) (k .0),
+    back-agree (q .lo) i (omega arith) b (k .1),
+  )
 
   pub queue-agree : Queue q l → Queue (relog q log′) l′
   queue-agree v = record {
     base = v .base;
     high = v .high;
     span = v .span;
-    next = λ i a b. rw (s .log i (omega arith) (omega arith), s .log (suc i) (omega arith) b, s .nx (suc i) (omega arith) b) (v .next i a b);
+    next =
+        λ i a b. rw (
+          s .log i (omega arith) (omega arith),
+          s .log (suc i) (omega arith) b,
+          s .nx (suc i) (omega arith) b,
+        ) (v .next i a b);
     floor = λ h. set-agree (q .fl) (v .base) (v .span h) (v .floor h);
     valid = λ i a b. go i (omega (arith, v .base)) b (v .valid i a b);
     newest = λ p e a. pv-agree p 0 a (omega arith) (v .newest p e a);
   }
     where
-      go : (i : ℕ) → q .lo ≤ i → i < q .hi → (l .tl (q .log i) ≡ 0) ⊎ Set q l i → (l′ .tl (log′ i) ≡ 0) ⊎ Set (relog q log′) l′ i
+      go : (i : ℕ) → q .lo ≤ i → i < q .hi → (l .tl (q .log i) ≡ 0) ⊎ Set q l i
+          → (l′ .tl (log′ i) ≡ 0) ⊎ Set (relog q log′) l′ i
       go i a b (inl e) = inl (rw (s .log i a b, s .tl i a b) e)
       go i a b (inr k) = inr (set-agree i a b k)
 
@@ -121,7 +133,7 @@ module _ (q : Part) (log′ : ℕ → ℕ) (l l′ : Links) (s : Agree q log′ 
     newest = λ p e y. pv-agree p 0 (omega arith) (omega arith) (m .newest p e y);
   }
 
-module _ (q : Part) (l : Links) (d : Live q) (v : Queue q l) where
+module _ {q : Interval} {l : Links} (d : Live q) (v : Queue q l) where
   -- ── store of a right prev: every prev that is right stays so ──
 
   module _ (j : ℕ) (jl : q .lo ≤ j) (jh : suc j < q .hi) where
@@ -134,7 +146,8 @@ module _ (q : Part) (l : Links) (d : Live q) (v : Queue q l) where
     pub pv-other : (i : ℕ) → q .lo ≤ i → i < q .hi → i ≢ j → withPv .pv (q .log i) ≡ l .pv (q .log i)
     pv-other i a b ne = upd-other (l .pv) (q .log j) (q .log (suc j)) (q .log i) (d .apart i j a b jl (omega arith) ne)
 
-    pub pv-right : (i : ℕ) → q .lo ≤ i → i < q .hi → l .pv (q .log i) ≡ q .log (suc i) → withPv .pv (q .log i) ≡ q .log (suc i)
+    pub pv-right : (i : ℕ) → q .lo ≤ i → i < q .hi → l .pv (q .log i) ≡ q .log (suc i)
+        → withPv .pv (q .log i) ≡ q .log (suc i)
     pv-right i a b k = go (eq? i j)
       where
         go : (i ≡ j) ⊎ (i ≢ j) → withPv .pv (q .log i) ≡ q .log (suc i)
@@ -163,8 +176,14 @@ module _ (q : Part) (l : Links) (d : Live q) (v : Queue q l) where
         go i b (inr s) = inr (pv-set i b s)
 
     -- the walker that stored it goes on there
-    pub walk-pv : (h : ℕ) → q .fl ≤ j → Walk q l h (suc j) → Walk q withPv h j
-    walk-pv h f w = record { base = w .base; low = f; mid = omega (arith, w .mid); top = w .top; back = λ i x y. go i x y (eq? i j) }
+    pub walk-pv : (h : ℕ) → q .fl ≤ j → Walker q l h (suc j) → Walker q withPv h j
+    walk-pv h f w = record {
+      base = w .base;
+      low = f;
+      mid = omega (arith, w .mid);
+      top = w .top;
+      back = λ i x y. go i x y (eq? i j);
+    }
       where
         go : (i : ℕ) → j ≤ i → i < h → (i ≡ j) ⊎ (i ≢ j) → withPv .pv (q .log i) ≡ q .log (suc i)
         go i x y (inl e) = rw e pv-at
@@ -177,8 +196,8 @@ module _ (q : Part) (l : Links) (d : Live q) (v : Queue q l) where
   -- ── what a walker reads ──
 
   -- no tail: it stands above the floor
-  pub above : (h c : ℕ) → Walk q l h c → l .tl (q .log c) ≡ 0 → q .fl < c
-  above h c w e = go (eq? c (q .fl))
+  pub stands-above : (h c : ℕ) → Walker q l h c → l .tl (q .log c) ≡ 0 → q .fl < c
+  stands-above h c w e = go (eq? c (q .fl))
     where
       s : q .lo < q .hi
       s = omega (arith, v .base, w .low, w .mid, w .top)
@@ -188,12 +207,20 @@ module _ (q : Part) (l : Links) (d : Live q) (v : Queue q l) where
       go (inr ne) = omega (arith, w .low)
 
   -- a tail: it is the oldest, and all the backlinks from there to the head are set
-  pub found : (h c : ℕ) → Walk q l h c → l .tl (q .log c) ≢ 0 → (l .tl (q .log c) ≡ q .log (q .lo)) × Full q l h
+  pub found : (h c : ℕ) → Walker q l h c → l .tl (q .log c) ≢ 0 → (l .tl (q .log c) ≡ q .log (q .lo)) × Full q l h
   found h c w ne = go (v .valid c (w .low) (omega (arith, w .mid, w .top)))
     where
       go : (l .tl (q .log c) ≡ 0) ⊎ Set q l c → (l .tl (q .log c) ≡ q .log (q .lo)) × Full q l h
       go (inl e) = absurd (ne e)
-      go (inr s) = (s .0, record { base = w .base; low = omega (arith, w .low, w .mid); top = w .top; back = λ j a b. below j a b (decLt j c) })
+      go (inr s) = (
+        s .0,
+        record {
+          base = w .base;
+          low = omega (arith, w .low, w .mid);
+          top = w .top;
+          back = λ j a b. below j a b (decLt j c);
+        },
+      )
         where
           below : (j : ℕ) → q .lo ≤ j → j < h → Dec (j < c) → l .pv (q .log j) ≡ q .log (suc j)
           below j a b (yes k) = s .1 j a k
@@ -205,7 +232,9 @@ module _ (q : Part) (l : Links) (d : Live q) (v : Queue q l) where
     where
       go : (l .tl (q .log i) ≡ 0) ⊎ Set q l i → l .tl (q .log i) ≡ 0
       go (inl e) = e
-      go (inr s) = absurd (d .some (suc h) (omega (arith, v .base)) (omega arith) (sym (s .1 h (omega (arith, v .base)) a) ∙ c h (omega arith) (omega arith)))
+      go (inr s) =
+          absurd (d .some (suc h) (omega (arith, v .base)) (omega arith)
+          (sym (s .1 h (omega (arith, v .base)) a) ∙ c h (omega arith) (omega arith)))
 
   -- ── store of the tail in a head ──
 
@@ -237,14 +266,15 @@ module _ (q : Part) (l : Links) (d : Live q) (v : Queue q l) where
         tl-set i c k (inl e) g = (rw (e, upd-same (l .tl) (q .log h) z), g .1)
         tl-set i c k (inr ne) g = (rw (tl-other z i c k ne) (g .0), g .1)
 
-        tl-valid : (i : ℕ) → q .lo ≤ i → i < q .hi → (i ≡ h) ⊎ (i ≢ h) → (l .tl (q .log i) ≡ 0) ⊎ Set q l i → (withTl z .tl (q .log i) ≡ 0) ⊎ Set q (withTl z) i
+        tl-valid : (i : ℕ) → q .lo ≤ i → i < q .hi → (i ≡ h) ⊎ (i ≢ h) → (l .tl (q .log i) ≡ 0) ⊎ Set q l i
+            → (withTl z .tl (q .log i) ≡ 0) ⊎ Set q (withTl z) i
         tl-valid i c k (inl e) g = inr (rw (e, upd-same (l .tl) (q .log h) z), λ j x y. f .back j x (omega arith))
         tl-valid i c k (inr ne) (inl e) = inl (rw (tl-other z i c k ne) e)
         tl-valid i c k (inr ne) (inr g) = inr (tl-set i c k (inr ne) g)
 
     -- ── set aside: the oldest goes, the head has its predecessor for a tail and is the floor ──
 
-    abbrev pub less : Part
+    abbrev pub less : Interval
     less = record { log = q .log; lo = suc (q .lo); hi = q .hi; fl = h }
 
     pub set-aside : q .lo < h → Clean q l h → Queue less (withTl (q .log (suc (q .lo))))
@@ -267,10 +297,11 @@ module _ (q : Part) (l : Links) (d : Live q) (v : Queue q l) where
 
   -- ── restore: the one set aside comes back, whatever has registered above ──
 
-  abbrev pub more : ℕ → Part
+  abbrev pub more : ℕ → Interval
   more b = record { log = q .log; lo = b; hi = q .hi; fl = q .fl }
 
-  pub restore : (b : ℕ) → suc b ≡ q .lo → q .lo < q .hi → linkOf (l .nx (q .log (q .lo))) ≡ q .log b → l .pv (q .log b) ≡ q .log (q .lo)
+  pub restore : (b : ℕ) → suc b ≡ q .lo → q .lo < q .hi → linkIn (l .nx (q .log (q .lo))) ≡ q .log b
+      → l .pv (q .log b) ≡ q .log (q .lo)
       → Clean q l (q .fl) → Queue (more b) (setTl l (q .log (q .fl)) (q .log b))
   restore b e s ne pe cl = record {
     base = omega (arith, v .base);
@@ -285,7 +316,7 @@ module _ (q : Part) (l : Links) (d : Live q) (v : Queue q l) where
       l′ : Links
       l′ = setTl l (q .log (q .fl)) (q .log b)
 
-      next′ : (i : ℕ) → b ≤ i → suc i < q .hi → (i ≡ b) ⊎ (i ≢ b) → linkOf (l .nx (q .log (suc i))) ≡ q .log i
+      next′ : (i : ℕ) → b ≤ i → suc i < q .hi → (i ≡ b) ⊎ (i ≢ b) → linkIn (l .nx (q .log (suc i))) ≡ q .log i
       next′ i x y (inl z) = rw (z, e) ne
       next′ i x y (inr z) = v .next i (omega arith) y
 
@@ -294,9 +325,14 @@ module _ (q : Part) (l : Links) (d : Live q) (v : Queue q l) where
       back′ j x y (inr z) = v .floor s .1 j (omega arith) y
 
       valid′ : (i : ℕ) → q .fl ≤ i → i < q .hi → (i ≡ q .fl) ⊎ (i ≢ q .fl)
-          → (upd (l .tl) (q .log (q .fl)) (q .log b) (q .log i) ≡ 0) ⊎ ((upd (l .tl) (q .log (q .fl)) (q .log b) (q .log i) ≡ q .log b) × Back (more b) l b i)
-      valid′ i x y (inl z) = inr (rw z (upd-same (l .tl) (q .log (q .fl)) (q .log b)), λ j c k. back′ j c (omega arith) (eq? j b))
-      valid′ i x y (inr z) = inl (rw (upd-other (l .tl) (q .log (q .fl)) (q .log b) (q .log i) (d .apart i (q .fl) (omega (arith, v .base)) y (v .base) (v .span s) z)) (bare (q .fl) i (omega arith) (omega arith) y cl))
+          → (upd (l .tl) (q .log (q .fl)) (q .log b) (q .log i) ≡ 0)
+          ⊎ ((upd (l .tl) (q .log (q .fl)) (q .log b) (q .log i) ≡ q .log b) × Back (more b) l b i)
+      valid′ i x y (inl z) =
+          inr (rw z (upd-same (l .tl) (q .log (q .fl)) (q .log b)), λ j c k. back′ j c (omega arith) (eq? j b))
+      valid′ i x y (inr z) =
+          inl (rw (upd-other (l .tl) (q .log (q .fl)) (q .log b) (q .log i)
+          (d .apart i (q .fl) (omega (arith, v .base)) y (v .base) (v .span s) z))
+          (bare (q .fl) i (omega arith) (omega arith) y cl))
 
       newest′ : (p : ℕ) → suc p ≡ q .hi → b ≤ p → (p ≡ b) ⊎ (p ≢ b) → l .pv (q .log p) ≡ 0
       newest′ p z x (inl w) = absurd (omega arith)
@@ -304,12 +340,13 @@ module _ (q : Part) (l : Links) (d : Live q) (v : Queue q l) where
 
 -- ── register: the node of ticket hi becomes the newest ──
 
-module _ (q : Part) (l : Links) (v : Queue q l) where
-  abbrev pub grown : Part
+module _ {q : Interval} {l : Links} (v : Queue q l) where
+  abbrev pub grown : Interval
   grown = record { log = q .log; lo = q .lo; hi = suc (q .hi); fl = q .fl }
 
   -- on a queue
-  pub grow : (p : ℕ) → q .hi ≡ suc p → q .lo < q .hi → linkOf (l .nx (q .log (q .hi))) ≡ q .log p → l .pv (q .log (q .hi)) ≡ 0
+  pub grow : (p : ℕ) → q .hi ≡ suc p → q .lo < q .hi → linkIn (l .nx (q .log (q .hi))) ≡ q .log p
+      → l .pv (q .log (q .hi)) ≡ 0
       → l .tl (q .log (q .hi)) ≡ 0 → Queue grown l
   grow p at s ne pe te = record {
     base = v .base;
@@ -324,7 +361,7 @@ module _ (q : Part) (l : Links) (v : Queue q l) where
       sucs : (i : ℕ) → suc i ≡ suc (q .hi) → i ≡ q .hi
       sucs i z = omega arith
 
-      next′ : (i : ℕ) → q .lo ≤ i → suc i < suc (q .hi) → (i ≡ p) ⊎ (i ≢ p) → linkOf (l .nx (q .log (suc i))) ≡ q .log i
+      next′ : (i : ℕ) → q .lo ≤ i → suc i < suc (q .hi) → (i ≡ p) ⊎ (i ≢ p) → linkIn (l .nx (q .log (suc i))) ≡ q .log i
       next′ i x y (inl z) = rw (z, ← at) ne
       next′ i x y (inr z) = v .next i x (omega arith)
 

@@ -1,39 +1,50 @@
--- A node is filled and gets the next ticket, on an empty queue or on another. Each keeps the queue's invariant. Assumes nothing.
+-- A node is filled and gets the next ticket, on an empty queue or on another. Each keeps the queue's invariant.
+-- Assumes nothing.
 use mathlib.Core.Path.{_≡_, refl, sym, ap, _∙_}
 use mathlib.Core.Logic.{_≢_, _⊎_, inl, inr}
-use mathlib.Core.Bool.{Bool, true, false, false≢true}
+use mathlib.Core.Bool.{Bool, true, false}
 use Prim.Native.Nat.{ℕ, suc, _≤_, _<_}
 use native.Mathlib.Omega.{arith}
 use Rattle.word.specs.Base.{pick}
 use Rattle.queue.specs.Updates.{upd, upd-same, upd-other, eq?}
-use Rattle.queue.specs.Queue.{Links, linkOf, Clean, Queue, Agree, relog}
+use Rattle.queue.specs.Queue.{Links, linkIn, Clean, Queue, Agree, relog}
 use Rattle.queue.specs.Queue
-use Rattle.queue.specs.Tickets.{Ghost, queueOf, takenOf, registered, log-below, waiting, parts-register}
+use Rattle.queue.specs.Tickets.{Ghost, ticketsOf, takenBy, registered, log-below, waiting-apart, parts-register}
 use Rattle.queue.specs.Roles.{none, ready, ReadyAt}
-use Rattle.queue.specs.Invariant.{St, Inv, moved, Only, fillLinks, only-fill, step, turn, told, agree-off, still-off, clean-off}
+use Rattle.queue.specs.Invariant.{St, Inv, moved, Only, fillLinks, only-fill, step, turn, role-knows, agree-apart}
+use Rattle.queue.specs.Invariant.{still-apart, clean-apart, turned, relinked}
+use Rattle.queue.specs.Tests.{never}
 
-module _ (g : Ghost) (s : St) (v : Inv g s) (t : ℕ) where
+module _ {g : Ghost} {s : St} (v : Inv g s) (t : ℕ) where
   -- a registration that failed
-  pub unready : (first : Bool) (n : ℕ) → s .role t ≡ ready first n → Inv g (moved s t (s .links) (s .wait) none)
-  unready first n e = turn g s v t none (w .empty) (λ f. absurd (false≢true f))
+  pub unready : {first : Bool} {n : ℕ} → s .role t ≡ ready first n → Inv g (turned s t none)
+  unready {first} {n} e = turn g s v t none (w .empty) (never refl)
     where
-      w : ReadyAt (takenOf g t) (s .links) (suc t) first n
-      w = told g s v t (ready first n) e
+      w : ReadyAt (takenBy g t) (s .links) (suc t) first n
+      w = role-knows v t (ready first n) e
 
   -- a node that does not wait is nobody's
-  pub fill : (first : Bool) (n : ℕ) → s .role t ≡ none → s .wait (suc t) ≡ false → Inv g (moved s t (fillLinks (s .links) (suc t) first n) (s .wait) (ready first n))
+  pub fill : (first : Bool) (n : ℕ) → s .role t ≡ none → s .wait (suc t) ≡ false
+      → Inv g (relinked s t (fillLinks (s .links) (suc t) first n) (ready first n))
   fill first n e f =
-      step g s v t g l′ (s .wait) (ready first n) (v .parts)
-      (Queue.queue-agree (queueOf g) (g .log) (s .links) l′ off (v .queue))
-      (record { empty = told g s v t none e; nx = upd-same (s .links .nx) (suc t) n; pv = upd-same (s .links .pv) (suc t) 0; tl = upd-same (s .links .tl) (suc t) (pick first (suc t) 0) })
+      step v t g l′ (s .wait) (ready first n) (v .parts)
+      (Queue.queue-agree off (v .queue))
+      (record {
+        empty = role-knows v t none e;
+        nx = upd-same (s .links .nx) (suc t) n;
+        pv = upd-same (s .links .pv) (suc t) 0;
+        tl = upd-same (s .links .tl) (suc t) (pick first (suc t) 0);
+      })
       (λ _. f)
       λ u ne. record {
         taken = refl;
         frame = record {
-          taken = agree-off g s v t (takenOf g u) l′ (suc t) only (λ i a b. waiting g (s .wait) (v .parts) i (suc u) (suc t) (v .parts .held u i a b .1) f);
+          taken =
+              agree-apart v t (takenBy g u) l′ (suc t) only
+              (λ i a b. waiting-apart (v .parts) i (suc u) (suc t) (v .parts .held u i a b .1) f);
           node = λ _. only (suc u) (λ z. ne (omega arith));
-          still = λ _. still-off g s v t l′ off;
-          clean = λ _. clean-off g s v t l′ off;
+          still = λ _. still-apart v t l′ off;
+          clean = λ _. clean-apart v t l′ off;
           below = λ _ b. off .nx (g .lo) (omega arith) b;
         };
         free = v .free u;
@@ -45,24 +56,38 @@ module _ (g : Ghost) (s : St) (v : Inv g s) (t : ℕ) where
       only : Only (s .links) l′ (suc t)
       only = only-fill (s .links) (suc t) first n
 
-      off : Agree (queueOf g) (g .log) (s .links) l′
-      off = agree-off g s v t (queueOf g) l′ (suc t) only (λ i a b. waiting g (s .wait) (v .parts) i 0 (suc t) (v .parts .queued i a b) f)
+      off : Agree (ticketsOf g) (g .log) (s .links) l′
+      off =
+          agree-apart v t (ticketsOf g) l′ (suc t) only
+          (λ i a b. waiting-apart (v .parts) i 0 (suc t) (v .parts .queued i a b) f)
 
   -- the node gets ticket hi; with its queue, whether it is the first or not, the rest is the same
-  join : (first : Bool) (n : ℕ) → s .role t ≡ ready first n → Queue (queueOf (registered g (suc t))) (s .links)
+  join : (first : Bool) (n : ℕ) → s .role t ≡ ready first n → Queue (ticketsOf (registered g (suc t))) (s .links)
       → Inv (registered g (suc t)) (moved s t (s .links) (upd (s .wait) (suc t) true) none)
   join first n e q =
-      step g s v t g′ (s .links) (upd (s .wait) (suc t) true) none
-      (parts-register g (s .wait) (v .parts) (suc t) (λ z. omega arith) (v .free t (rw e refl)))
+      step v t g′ (s .links) (upd (s .wait) (suc t) true) none
+      (parts-register (v .parts) (suc t) (λ z. omega arith) (v .free t (rw e refl)))
       q
       (w .empty)
-      (λ x. absurd (false≢true x))
+      (never refl)
       λ u ne. record {
         taken = refl;
         frame = record {
-          taken = record { log = λ i a b. old i (v .parts .held u i a b .0); nx = λ i a b. refl; pv = λ i a b. refl; tl = λ i a b. refl };
+          taken = record {
+            log = λ i a b. old i (v .parts .held u i a b .0);
+            nx = λ i a b. refl;
+            pv = λ i a b. refl;
+            tl = λ i a b. refl;
+          };
           node = λ _. record { nx = refl; pv = refl; tl = refl };
-          still = λ _. record { lo = refl; fl = refl; hi = omega arith; log = λ i a b. old i b; back = λ i a b z. rw (old i (omega arith), old (suc i) b) z };
+          still =
+              λ _. record {
+                lo = refl;
+                fl = refl;
+                hi = omega arith;
+                log = λ i a b. old i b;
+                back = λ i a b z. rw (old i (omega arith), old (suc i) b) z;
+              };
           clean = λ _ h a c i x y. untouched c x y (eq? i (g .hi));
           below = λ _ b. refl;
         };
@@ -72,31 +97,41 @@ module _ (g : Ghost) (s : St) (v : Inv g s) (t : ℕ) where
       g′ : Ghost
       g′ = registered g (suc t)
 
-      w : ReadyAt (takenOf g t) (s .links) (suc t) first n
-      w = told g s v t (ready first n) e
+      w : ReadyAt (takenBy g t) (s .links) (suc t) first n
+      w = role-knows v t (ready first n) e
 
       old : (i : ℕ) → i < g .hi → upd (g .log) (g .hi) (suc t) i ≡ g .log i
-      old i h = log-below g (s .wait) (v .parts) (suc t) i h
+      old i h = log-below (v .parts) (suc t) i h
 
-      untouched : {h i : ℕ} → Clean (queueOf g) (s .links) h → h ≤ i → i < suc (g .hi) → (i ≡ g .hi) ⊎ (i ≢ g .hi) → s .links .pv (upd (g .log) (g .hi) (suc t) i) ≡ 0
+      untouched : {h i : ℕ} → Clean (ticketsOf g) (s .links) h → h ≤ i → i < suc (g .hi) → (i ≡ g .hi) ⊎ (i ≢ g .hi)
+          → s .links .pv (upd (g .log) (g .hi) (suc t) i) ≡ 0
       untouched {h} {i} c x y (inl z) = rw (z, upd-same (g .log) (g .hi) (suc t)) (w .pv)
       untouched {h} {i} c x y (inr ne) = rw (old i (omega arith)) (c i x (omega arith))
 
-  relogged : Queue (relog (queueOf g) (upd (g .log) (g .hi) (suc t))) (s .links)
+  relogged : Queue (relog (ticketsOf g) (upd (g .log) (g .hi) (suc t))) (s .links)
   relogged =
-      Queue.queue-agree (queueOf g) (upd (g .log) (g .hi) (suc t)) (s .links) (s .links)
-      (record { log = λ i a b. log-below g (s .wait) (v .parts) (suc t) i b; nx = λ i a b. refl; pv = λ i a b. refl; tl = λ i a b. refl }) (v .queue)
+      Queue.queue-agree
+      (record {
+        log = λ i a b. log-below (v .parts) (suc t) i b;
+        nx = λ i a b. refl;
+        pv = λ i a b. refl;
+        tl = λ i a b. refl;
+      }) (v .queue)
 
-  pub register-first : (n : ℕ) → s .role t ≡ ready true n → g .lo ≡ g .hi → Inv (registered g (suc t)) (moved s t (s .links) (upd (s .wait) (suc t) true) none)
-  register-first n e z =
-      let w : ReadyAt (takenOf g t) (s .links) (suc t) true n = told g s v t (ready true n) e in
-      join true n e (Queue.first (relog (queueOf g) (upd (g .log) (g .hi) (suc t))) (s .links) relogged z (rw (upd-same (g .log) (g .hi) (suc t)) (w .pv)) (rw (upd-same (g .log) (g .hi) (suc t)) (w .tl)))
-
-  pub register-next : (n p : ℕ) → s .role t ≡ ready false n → suc p ≡ g .hi → g .lo ≤ p → g .log p ≡ linkOf n
+  pub register-first : {n : ℕ} → s .role t ≡ ready true n → g .lo ≡ g .hi
       → Inv (registered g (suc t)) (moved s t (s .links) (upd (s .wait) (suc t) true) none)
-  register-next n p e at some is =
-      let w : ReadyAt (takenOf g t) (s .links) (suc t) false n = told g s v t (ready false n) e in
-      join false n e (Queue.grow (relog (queueOf g) (upd (g .log) (g .hi) (suc t))) (s .links) relogged p (sym at) (omega arith)
-      (rw (upd-same (g .log) (g .hi) (suc t), log-below g (s .wait) (v .parts) (suc t) p (omega arith)) (ap linkOf (w .nx) ∙ sym is))
+  register-first {n} e z =
+      let w : ReadyAt (takenBy g t) (s .links) (suc t) true n = role-knows v t (ready true n) e in
+      join true n e
+      (Queue.first relogged z (rw (upd-same (g .log) (g .hi) (suc t)) (w .pv))
+      (rw (upd-same (g .log) (g .hi) (suc t)) (w .tl)))
+
+  pub register-next : {n : ℕ} (p : ℕ) → s .role t ≡ ready false n → suc p ≡ g .hi → g .lo ≤ p → g .log p ≡ linkIn n
+      → Inv (registered g (suc t)) (moved s t (s .links) (upd (s .wait) (suc t) true) none)
+  register-next {n} p e at some is =
+      let w : ReadyAt (takenBy g t) (s .links) (suc t) false n = role-knows v t (ready false n) e in
+      join false n e (Queue.grow relogged p (sym at) (omega arith)
+      (rw (upd-same (g .log) (g .hi) (suc t), log-below (v .parts) (suc t) p (omega arith))
+      (ap linkIn (w .nx) ∙ sym is))
       (rw (upd-same (g .log) (g .hi) (suc t)) (w .pv))
       (rw (upd-same (g .log) (g .hi) (suc t)) (w .tl)))

@@ -1,4 +1,5 @@
--- Sums over the numbers below n, and how many different numbers below n there are. Assumes nothing.
+-- Sums over the numbers below n, and how many different numbers below n there are.
+-- Assumes nothing.
 use mathlib.Core.Path.{_≡_, refl, sym, ap, _∙_}
 use mathlib.Core.Logic.{_≢_, _⊎_, inl, inr}
 use Prim.Native.Nat.{ℕ, zero, suc, _+_, _≤_, _<_}
@@ -27,8 +28,11 @@ sum-one (suc n) f g i l h = go (λ k. sum-one n f g i k h) (eq? i n)
     go r (inr ne) = omega (arith, r (omega arith), h n (λ q. ne (sym q)))
 
 -- one argument's value replaced
-pub sum-upd : {A : Type 0} (n : ℕ) (f : A → ℕ) (h : ℕ → A) (i : ℕ) (x : A) → i < n → sum n (λ j. f (upd h i x j)) + f (h i) ≡ sum n (λ j. f (h j)) + f x
-sum-upd n f h i x l = rw (upd-same h i x) at (sum-one n (λ j. f (upd h i x j)) (λ j. f (h j)) i l (λ j ne. ap f (upd-other h i x j ne)))
+pub sum-upd : {A : Type 0} (n : ℕ) (f : A → ℕ) (h : ℕ → A) (i : ℕ) (x : A) → i < n
+    → sum n (λ j. f (upd h i x j)) + f (h i) ≡ sum n (λ j. f (h j)) + f x
+sum-upd n f h i x l =
+    rw (upd-same h i x)
+    at (sum-one n (λ j. f (upd h i x j)) (λ j. f (h j)) i l (λ j ne. ap f (upd-other h i x j ne)))
 
 -- a term is at most the sum, and two terms are
 pub sum-le : (n : ℕ) (f : ℕ → ℕ) (i : ℕ) → i < n → f i ≤ sum n f
@@ -61,7 +65,8 @@ sum-some (suc n) f l = go (λ k. sum-some n f k) (eq? (f n) 0)
     go r (inr ne) = (n, omega arith)
 
 -- m different numbers below n are at most n
-pub pigeon : (n m : ℕ) (f : ℕ → ℕ) → ((i : ℕ) → i < m → f i < n) → ((i j : ℕ) → i < m → j < m → i ≢ j → f i ≢ f j) → m ≤ n
+pub pigeon : (n m : ℕ) (f : ℕ → ℕ) → ((i : ℕ) → i < m → f i < n) → ((i j : ℕ) → i < m → j < m → i ≢ j → f i ≢ f j)
+    → m ≤ n
 pigeon n zero f r ne = omega arith
 pigeon zero (suc m) f r ne = absurd (out (r 0 (omega arith)))
   where
@@ -82,7 +87,8 @@ pigeon (suc n) (suc m) f r ne = omega (arith, pigeon n m h small differ)
     small i l = go (eq? (f i) n)
       where
         go : (f i ≡ n) ⊎ (f i ≢ n) → h i < n
-        go (inl e) = rw (at i e) (omega (arith, r m (omega arith), ne m i (omega arith) (omega arith) (λ z. omega arith)))
+        go (inl e) =
+            rw (at i e) (omega (arith, r m (omega arith), ne m i (omega arith) (omega arith) (λ z. omega arith)))
         go (inr z) = rw (off i z) (omega (arith, r i (omega arith)))
 
     differ : (i j : ℕ) → i < m → j < m → i ≢ j → h i ≢ h j

@@ -1,4 +1,5 @@
--- Tests that cannot come out two ways. Assumes nothing.
+-- Tests that cannot come out two ways.
+-- Assumes nothing.
 use mathlib.Core.Bool.{Bool, true, false, false≢true}
 use mathlib.Core.Path.{_≡_, refl, sym, _∙_}
 

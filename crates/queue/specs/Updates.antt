@@ -1,4 +1,5 @@
--- Functions on numbers with one value replaced, and what a list's store is to its elements as a function. Assumes nothing.
+-- Functions on numbers with one value replaced, and what a list's store is to its elements as a function.
+-- Assumes nothing.
 use mathlib.Core.Path.{_≡_, refl, sym, subst, fun-ext}
 use mathlib.Core.Logic.{_≢_, _⊎_, inl, inr}
 use mathlib.Core.Bool.{Bool, true, false}
@@ -30,7 +31,8 @@ module _ {A : Type 0} where
   upd-other f i v j h = rw (ne-eqb j i h)
 
   -- what holds of the new value at i, and of the old value at every other place, holds of the update
-  pub upd-cases : (P : ℕ → A → Type 0) (f : ℕ → A) (i : ℕ) (v : A) → P i v → ((j : ℕ) → j ≢ i → P j (f j)) → (j : ℕ) → P j (upd f i v j)
+  pub upd-cases : (P : ℕ → A → Type 0) (f : ℕ → A) (i : ℕ) (v : A) → P i v → ((j : ℕ) → j ≢ i → P j (f j)) → (j : ℕ)
+      → P j (upd f i v j)
   upd-cases P f i v new old j = go (eq? j i)
     where
       go : (j ≡ i) ⊎ (j ≢ i) → P j (upd f i v j)
@@ -49,7 +51,8 @@ module _ {A : Type 0} where
       go j (inr ne) = rw (upd-other (upd f i v) i w j ne, upd-other f i v j ne, upd-other f i w j ne)
 
   -- a list's elements as a function, and a store in it as an update
-  pub at-set : (l : List A) (d : A) (i : ℕ) (v : A) → i < length l → (λ j. getD (set l i v) j d) ≡ upd (λ j. getD l j d) i v
+  pub at-set : (l : List A) (d : A) (i : ℕ) (v : A) → i < length l
+      → (λ j. getD (set l i v) j d) ≡ upd (λ j. getD l j d) i v
   at-set l d i v h = fun-ext λ j. go j (eq? j i)
     where
       go : (j : ℕ) → (j ≡ i) ⊎ (j ≢ i) → getD (set l i v) j d ≡ upd (λ j. getD l j d) i v j

@@ -1,9 +1,12 @@
--- The ways in which a call ends by a change of the word: with no queue; by a grant to a writer; with a queue that somebody owns. Assumes nothing.
+-- The ways in which a call ends by a change of the word: with no queue; by a grant to a writer; with a queue that
+-- somebody owns.
+-- Assumes nothing.
 use Prim.Native.Nat.{ℕ, _+_, _*_, _<_}
 use mathlib.Core.Bool.{Bool, true, false}
 use mathlib.Core.Path.{_≡_, refl, sym, ap, _∙_}
 use native.Mathlib.Omega.{arith}
-use Rattle.word.specs.Flags.{word, LOCKED, QUEUED, QUEUE-LOCKED, DOWNGRADED, SINGLE, locked, queued, downgraded, setLocked}
+use Rattle.word.specs.Flags.{word, LOCKED, QUEUED, QUEUE-LOCKED, DOWNGRADED, SINGLE, locked, queued, downgraded}
+use Rattle.word.specs.Flags.{setLocked}
 use Rattle.word.specs.Laws.{ReadGranted, read-lock-granted, set-has, set-keeps, set-node}
 use Rattle.word.specs.Rules.{readLockOf}
 use Rattle.word.specs.declared.flags.Word.{Word}
@@ -13,14 +16,17 @@ use Rattle.state.specs.declared.holding.Holding.{Holding}
 use Rattle.queue.specs.Tests.{never, not-true}
 use Rattle.queue.specs.Tickets.{Ghost}
 use Rattle.invariant.specs.Table.{Lock, Free, leaver}
-use Rattle.invariant.specs.Invariant.{readers, writers, leavers, Hold, Unqueued, empty, written, read, by-writer, Inv}
-use Rattle.invariant.specs.Off.{Down, Ended}
+use Rattle.invariant.specs.Invariant.{readers, writers, leavers, Hold, Unqueued, empty, written, read, by-writer}
+use Rattle.invariant.specs.Invariant.{Inv}
+use Rattle.invariant.specs.OffQueue.{RoleDown, Ended}
 use Rattle.invariant.specs.Words.{Plain, word-is, readers-word, granted-word}
 
-module _ (n : ℕ) (s : Lock) (g : Ghost) (i : Inv n s g) (t : ℕ) (tin : t < n) (o : Down s g t) where
+module _ {n : ℕ} {s : Lock} {g : Ghost} (i : Inv n s g) (t : ℕ) (tin : t < n) (o : RoleDown s g t) where
   -- an unqueued word becomes another
   pub ended-bare : (w : Word) (h : Holding) → queued (s .word) ≡ false → Plain w →
-      ((r v l : ℕ) → r + readsOf (s .th t .holding) ≡ readers n s + readsOf h → v + writesOf (s .th t .holding) ≡ writers n s + writesOf h → l + leaver (s .th t) ≡ leavers n s → Unqueued w r v l) → Ended n s g i t tin o w h
+      ((r v l : ℕ) → r + readsOf (s .th t .holding) ≡ readers n s + readsOf h
+      → v + writesOf (s .th t .holding) ≡ writers n s + writesOf h → l + leaver (s .th t) ≡ leavers n s
+      → Unqueued w r v l) → Ended i t tin o w h
   ended-bare w h un p count = record {
     same-queue = p .unqueued ∙ sym un;
     same-owner = p .unowned ∙ sym (i .bare un .0);
@@ -28,16 +34,26 @@ module _ (n : ℕ) (s : Lock) (g : Ghost) (i : Inv n s g) (t : ℕ) (tin : t < n
     handed = λ e. never (p .unqueued) e;
     bare = λ e. p .plain;
     plain = λ u ne e. p .plain;
-    count = λ r v l er ev el. record { bare = λ _. count r v l er ev el; unlocked = λ e. never (p .unqueued) e; handed = λ e. never (p .unqueued) e; held = λ e. never (p .unqueued) e };
+    count =
+        λ r v l er ev el.
+        record {
+          bare = λ _. count r v l er ev el;
+          unlocked = λ e. never (p .unqueued) e;
+          handed = λ e. never (p .unqueued) e;
+          held = λ e. never (p .unqueued) e;
+        };
     unreal = λ e. never (p .unqueued) e;
     seen-to = λ e. never (p .unqueued) e;
   }
 
   -- read_lock grants: one reader more
-  pub ended-read : Free (s .th t .holding) → leaver (s .th t) ≡ 0 → (to : Word) → readLockOf (s .word) ≡ To to → Ended n s g i t tin o to (grantedRead (s .th t .holding))
+  pub ended-read : Free (s .th t .holding) → leaver (s .th t) ≡ 0 → (to : Word) → readLockOf (s .word) ≡ To to
+      → Ended i t tin o to (grantedRead (s .th t .holding))
   ended-read h leaves to e =
       ended-bare to (grantedRead (s .th t .holding)) (d .unqueued) (readers-word to (readers n s + 1) (x .0) .is)
-      (λ r v l er ev el. read (omega (arith, x)) (omega arith) (record { reads = refl; writes = omega (arith, x); leaves = omega (arith, x) }))
+      (λ r v l er ev el.
+      read (omega (arith, x)) (omega arith)
+      (record { reads = refl; writes = omega (arith, x); leaves = omega (arith, x) }))
     where
       d : ReadGranted (s .word) to
       d = read-lock-granted (s .word) to e
@@ -65,7 +81,8 @@ module _ (n : ℕ) (s : Lock) (g : Ghost) (i : Inv n s g) (t : ℕ) (tin : t < n
     none-holds : Hold (readers n s) (writers n s) (leavers n s) 0 0 0
     none-holds = by (queued (s .word)) refl
       where
-        of : Unqueued (s .word) (readers n s) (writers n s) (leavers n s) → Hold (readers n s) (writers n s) (leavers n s) 0 0 0
+        of : Unqueued (s .word) (readers n s) (writers n s) (leavers n s)
+            → Hold (readers n s) (writers n s) (leavers n s) 0 0 0
         of (empty z h) = h
         of (written z h) = never un (readers-word (s .word) 0 z .locked)
         of (read z some h) = never un (readers-word (s .word) (readers n s) z .locked)
@@ -83,7 +100,7 @@ module _ (n : ℕ) (s : Lock) (g : Ghost) (i : Inv n s g) (t : ℕ) (tin : t < n
     same-plain : downgraded (setLocked (s .word)) ≡ false
     same-plain = set-keeps LOCKED DOWNGRADED refl (s .word) ∙ plain-word
 
-    pub ended-written : Ended n s g i t tin o (setLocked (s .word)) (grantedWrite (s .th t .holding))
+    pub ended-written : Ended i t tin o (setLocked (s .word)) (grantedWrite (s .th t .holding))
     ended-written = record {
       same-queue = same-queue;
       same-owner = set-keeps LOCKED QUEUE-LOCKED refl (s .word);
@@ -91,12 +108,19 @@ module _ (n : ℕ) (s : Lock) (g : Ghost) (i : Inv n s g) (t : ℕ) (tin : t < n
       handed = λ e d. never same-plain d;
       bare = λ e. same-plain;
       plain = λ u ne e. same-plain;
-      count = λ r v l er ev el. let x : Hold r v l 0 1 0 = record { reads = omega (arith, none-holds, free); writes = omega (arith, none-holds, free); leaves = omega (arith, none-holds, leaves) } in record {
-        bare = λ e. written (ap (λ y. setLocked y .0) (free-word (sym same-queue ∙ e))) x;
-        unlocked = λ _ e. never e is-locked;
-        handed = λ _ _ d. never same-plain d;
-        held = λ _ _ _. by-writer x;
-      };
+      count =
+          λ r v l er ev el.
+          let x : Hold r v l 0 1 0 =
+          record {
+            reads = omega (arith, none-holds, free);
+            writes = omega (arith, none-holds, free);
+            leaves = omega (arith, none-holds, leaves);
+          } in record {
+            bare = λ e. written (ap (λ y. setLocked y .0) (free-word (sym same-queue ∙ e))) x;
+            unlocked = λ _ e. never e is-locked;
+            handed = λ _ _ d. never same-plain d;
+            held = λ _ _ _. by-writer x;
+          };
       unreal = λ _ _ r e. omega (arith, none-holds, free);
       seen-to = λ _ e. never e is-locked;
     }

@@ -1,9 +1,10 @@
--- Moves of a thread off the queue: `hop`, on without a change of what is shared; `finish`, the end of a call by a change of the
--- word's LOCKED, DOWNGRADED or readers' count, with the queue as it was. Assumes nothing.
+-- A thread off the queue moves on: `goes-off-queue`, without a change of what is shared; `ends-call`, the end of a call
+-- by a change of the word's LOCKED, DOWNGRADED or readers' count, with the queue as it was.
+-- Assumes nothing.
 use Prim.Native.Nat.{ℕ, _+_, _<_}
 use mathlib.Core.Bool.{Bool, true, false}
 use mathlib.Core.Logic.{_≢_}
-use mathlib.Core.Path.{_≡_, refl, sym, ap, _∙_, subst}
+use mathlib.Core.Path.{_≡_, refl, sym, ap, _∙_}
 use native.Mathlib.Omega.{arith}
 use Rattle.word.specs.Flags.{locked, queued, queueLocked, downgraded, toNode}
 use Rattle.word.specs.declared.flags.Word.{Word}
@@ -13,17 +14,16 @@ use Rattle.state.specs.declared.machine.Thread.{Thread}
 use Rattle.state.specs.declared.place.Place.{Place}
 use Rattle.state.specs.declared.place.Place.the-variants.{Idle}
 use Rattle.queue.specs.Tests.{never}
-use Rattle.queue.specs.Updates.{upd}
 use Rattle.queue.specs.Tickets.{Ghost}
 use Rattle.queue.specs.Roles.{none, filled}
 use Rattle.queue.specs.Invariant as Q
-use Rattle.invariant.specs.Table.{May, About, off, about, Lock, aboutAt, linksOf, waitOf, Allowed, leaver}
-use Rattle.invariant.specs.Invariant.{readers, writers, leavers, Count, Real, Newest, queueOf, Inv}
-use Rattle.invariant.specs.Frames.{moved, waits-as, view, summed, land, stay}
-use Rattle.invariant.specs.Kept.{placed}
+use Rattle.invariant.specs.Table.{May, About, offQueue, about, Lock, aboutAt, Allowed, leaver}
+use Rattle.invariant.specs.Invariant.{readers, writers, leavers, Count, Real, queueOf, Inv}
+use Rattle.invariant.specs.Frames.{moved, summed, land, stay, viewed-still, same-newest}
+use Rattle.invariant.specs.Kept.{placed, became}
 
 -- what is told of a place off the queue
-pub record Off (a : About) : Type 0 where
+pub record OffQueue (a : About) : Type 0 where
   pub role : a .role ≡ none
   pub owner : a .owner ≡ false
   pub reader : a .reader ≡ false
@@ -31,32 +31,36 @@ pub record Off (a : About) : Type 0 where
   pub asleep : a .asleep ≡ false
   pub ok : a .ok ≡ true
 
-pub is-off : (may : May) (leaves needsQueue contends : Bool) → Off (off may leaves needsQueue contends)
-is-off may leaves needsQueue contends = record { role = refl; owner = refl; reader = refl; registered = refl; asleep = refl; ok = refl }
+pub off-queue : (may : May) (leaves needsQueue contends : Bool) → OffQueue (offQueue may leaves needsQueue contends)
+off-queue may leaves needsQueue
+    contends = record { role = refl; owner = refl; reader = refl; registered = refl; asleep = refl; ok = refl }
 
 -- thread t owns nothing of the queue, and its role may be put down
-pub record Down (s : Lock) (g : Ghost) (t : ℕ) : Type 0 where
+pub record RoleDown (s : Lock) (g : Ghost) (t : ℕ) : Type 0 where
   pub owner : aboutAt s t .owner ≡ false
   pub registered : aboutAt s t .registered ≡ false
-  pub role : Q.Inv g (Q.moved (queueOf s) t (linksOf (s .nd)) (waitOf (s .th) (s .nd)) none)
+  pub role : Q.Inv g (Q.turned (queueOf s) t none)
 
-pub off-down : (n : ℕ) (s : Lock) (g : Ghost) (i : Inv n s g) (t : ℕ) → Off (aboutAt s t) → Down s g t
-off-down n s g i t o = record { owner = o .owner; registered = o .registered; role = Q.turn g (queueOf s) (i .queue) t none (rw (o .role) at (i .queue .know t)) (never refl) }
+pub role-down : {n : ℕ} {s : Lock} {g : Ghost} (i : Inv n s g) (t : ℕ) → OffQueue (aboutAt s t) → RoleDown s g t
+role-down {s} {g} i t
+    o = record {
+      owner = o .owner;
+      registered = o .registered;
+      role = Q.turn g (queueOf s) (i .queue) t none (rw (o .role) at (i .queue .know t)) (never refl);
+    }
 
-module _ (n : ℕ) (s : Lock) (g : Ghost) (i : Inv n s g) (t : ℕ) (tin : t < n) (o : Down s g t) where
+module _ {n : ℕ} {s : Lock} {g : Ghost} (i : Inv n s g) (t : ℕ) (tin : t < n) (o : RoleDown s g t) where
   -- the queue's view where the thread goes on off the queue
-  pub queue-off : (w : Word) (x : Thread) → Off (about (x .place)) → Q.Inv g (queueOf (moved s t w x (s .nd)))
-  queue-off w x o′ = subst (λ z. Q.Inv g z) (sym (view s t x (s .nd) w (linksOf (s .nd)) (waitOf (s .th) (s .nd)) refl same)) (rw (o′ .role) (o .role))
-    where
-      same : waitOf (upd (s .th) t x) (s .nd) ≡ waitOf (s .th) (s .nd)
-      same = waits-as s t x (s .nd) (waitOf (s .th) (s .nd)) refl (rw (o′ .registered, o .registered)) (λ u ne. refl)
+  pub queue-still : (w : Word) (x : Thread) → OffQueue (about (x .place)) → Q.Inv g (queueOf (moved s t w x (s .nd)))
+  queue-still w x o′ = viewed-still s t x w (rw (o′ .registered, o .registered)) (rw (o′ .role) (o .role))
 
   -- on to another place, with the word as it is
-  pub hop : (p : Place) → Off (about p) → Allowed (about p .may) (s .th t .holding) → (about p .needsQueue ≡ true → queued (s .word) ≡ true)
+  pub goes-off-queue : (p : Place) → OffQueue (about p) → Allowed (about p .may) (s .th t .holding)
+      → (about p .needsQueue ≡ true → queued (s .word) ≡ true)
       → leaver (placed (s .th t) p) ≡ leaver (s .th t) → (aboutAt s t .contends ≡ true → about p .contends ≡ true) →
       Inv n (moved s t (s .word) (placed (s .th t) p) (s .nd)) g
-  hop p o′ may needs leaving contending = stay n s g t (placed (s .th t) p) (s .nd) i (record {
-    queue = queue-off (s .word) (placed (s .th t) p) o′;
+  goes-off-queue p o′ may needs leaving contending = stay n s g t (placed (s .th t) p) (s .nd) i (record {
+    queue = queue-still (s .word) (placed (s .th t) p) o′;
     inside = tin;
     holding = refl;
     completed = λ u ne. refl;
@@ -82,18 +86,19 @@ module _ (n : ℕ) (s : Lock) (g : Ghost) (i : Inv n s g) (t : ℕ) (tin : t < n
     pub handed : queued w ≡ true → downgraded w ≡ true → (queueLocked w ≡ true) × (locked w ≡ true)
     pub bare : queued w ≡ false → downgraded w ≡ false
     pub plain : (u : ℕ) → u ≢ t → aboutAt s u .reader ≡ true → downgraded w ≡ false
-    pub count : (r v l : ℕ) → r + readsOf (s .th t .holding) ≡ readers n s + readsOf h → v + writesOf (s .th t .holding) ≡ writers n s + writesOf h
+    pub count : (r v l : ℕ) → r + readsOf (s .th t .holding) ≡ readers n s + readsOf h
+        → v + writesOf (s .th t .holding) ≡ writers n s + writesOf h
         → l + leaver (s .th t) ≡ leavers n s → Count w r v l
-    pub unreal : queued w ≡ true → downgraded w ≡ false → (r : ℕ) → r + readsOf (s .th t .holding) ≡ readers n s + readsOf h → r ≡ 0
+    pub unreal : queued w ≡ true → downgraded w ≡ false → (r : ℕ)
+        → r + readsOf (s .th t .holding) ≡ readers n s + readsOf h → r ≡ 0
     pub seen-to : queued w ≡ true → locked w ≡ false → queueLocked w ≡ false → ⊥
 
-  abbrev pub idle : Holding → Thread
-  idle h = record { place = Idle; token = s .th t .token; holding = h }
-
-  pub finish : (w : Word) (h : Holding) → Ended w h → Inv n (moved s t w (idle h) (s .nd)) g
-  finish w h c = land n s g g t w (idle h) (s .nd) i (record {
-    queue = queue-off w (idle h) (is-off _ _ _ _);
-    newest = λ e. let v : Newest g (s .word) = i .newest (sym (c .same-queue) ∙ e) in record { ticket = v .ticket; last = v .last; some = v .some; node = v .node ∙ ap (λ z. z .0) (sym (c .same-node (sym (c .same-queue) ∙ e))) };
+  pub ends-call : (w : Word) (h : Holding) → Ended w h → Inv n (moved s t w (became (s .th t) Idle h) (s .nd)) g
+  ends-call w h c = land i g t w (became (s .th t) Idle h) (s .nd) (record {
+    queue = queue-still w (became (s .th t) Idle h) (off-queue _ _ _ _);
+    newest = λ e.
+        let q : queued (s .word) ≡ true = sym (c .same-queue) ∙ e in
+        same-newest w (c .same-node q) (i .newest q);
     nobody = λ e. i .nobody (sym (c .same-queue) ∙ e);
     handed = c .handed;
     bare = λ e. (c .same-owner ∙ i .bare (sym (c .same-queue) ∙ e) .0, c .bare e);
@@ -116,5 +121,11 @@ module _ (n : ℕ) (s : Lock) (g : Ghost) (i : Inv n s g) (t : ℕ) (tin : t < n
     seen-to = λ a b d. absurd (c .seen-to a b d);
   })
     where
-      unreal : Real n (moved s t w (idle h) (s .nd)) → ⊥
-      unreal r = omega (arith, r .some, c .unreal (r .queue) (r .plain) (readers n (moved s t w (idle h) (s .nd))) (summed s t (idle h) (s .nd) n tin (λ y. readsOf (y .holding))))
+      unreal : Real n (moved s t w (became (s .th t) Idle h) (s .nd)) → ⊥
+      unreal r =
+          omega (
+            arith,
+            r .some,
+            c .unreal (r .queue) (r .plain) (readers n (moved s t w (became (s .th t) Idle h) (s .nd)))
+                (summed s t (became (s .th t) Idle h) (s .nd) n tin (λ y. readsOf (y .holding))),
+          )
