@@ -33,7 +33,7 @@ use Rattle.promises.specs.Theorems.{refusal-changes-nothing, refused-has-no-eff
 use Rattle.queue.specs.Tests.{not-true, not-false}
 use Rattle.invariant.specs.Table.{about}
 use Rattle.invariant.specs.Invariant.{writers, leavers}
-use Rattle.invariant.specs.Beside.{nobody-needs}
+use Rattle.invariant.specs.Exclusion.{nobody-needs}
 use Rattle.invariant.specs.Bridge.{lockOf}
 use Rattle.invariant.specs.Events.{Ok}
 use Rattle.safety.specs.Statements.{Event, effectIn, WithTheWord}
@@ -60,7 +60,7 @@ needs-contended : (m : Machine) (ok : Ok m) (t : ℕ)
 needs-contended m ok t e = rw (q, l, d)
   where
     gone : writers (m .count) (lockOf m) ≡ 0 → leavers (m .count) (lockOf m) ≡ 0 → ⊥
-    gone w0 l0 = nobody-needs (m .count) (lockOf m) (ok .ghost) (ok .inv) w0 l0 t e
+    gone w0 l0 = nobody-needs (ok .inv) w0 l0 t e
 
     q : queued (m .word) ≡ true
     q = ok .inv .needs t e

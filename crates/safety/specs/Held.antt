@@ -20,12 +20,12 @@ use Rattle.state.specs.declared.place.Place.{Place}
 use Rattle.state.specs.declared.place.Place.the-variants.{Idle, TryReadLoad, TryReadCas, TryWriteOr, ContendLoad, ContendCas, RegisterCas, CompletedLoad, Park, WalkTail, WalkNext, WalkPrev, WalkHead, QueueCas, SplitPrev, SplitStore, SplitCas, SplitRestore, TakeCas, WakePrev, WakeStore, ReadUnlockLoad, ReadUnlockCas, Subtract, WriteUnlockCas, ReleaseCas, DowngradeCas, DowngradeSlowCas}
 use Rattle.listing.specs.Listing.{Listed, listed, prepend, followedOf, listedOf}
 use Rattle.standing.specs.Part.{partOf}
-use Rattle.queue.specs.Queue.{Part, Live, Links, Queue, Walk as Walks, Full}
-use Rattle.queue.specs.Tickets.{Ghost, Held, queueOf as ticketsOf, takenOf, live-queue, live-taken}
+use Rattle.queue.specs.Queue.{Interval, Live, Links, Queue, Walker as Walks, Full}
+use Rattle.queue.specs.Tickets.{Ghost, Held, ticketsOf as ticketsOf, takenBy, live-queue, live-taken}
 use Rattle.queue.specs.Roles.{Know, Ground, AsideAt, WakeAt, StoreAt}
 use Rattle.invariant.specs.Table.{handsOff, lookKind, about, linksOf, waitOf}
 use Rattle.invariant.specs.Invariant.{Newest}
-use Rattle.invariant.specs.Beside.{inside}
+use Rattle.invariant.specs.Exclusion.{inside}
 use Rattle.invariant.specs.Wake.{Waiter-of, waiter-of}
 use Rattle.invariant.specs.Bridge.{nodeIn, lockOf}
 use Rattle.invariant.specs.Events.{Ok}
@@ -44,12 +44,12 @@ module _ (m : Machine) (ok : Ok m) where
   in-range : (o i : ℕ) → Held g (waitOf (threadAt m) (nodeIn (m .nodes))) o i → g .log i ≤ m .count
   in-range o i h =
       let x : Waiter-of (lockOf m) (g .log i) = waiter-of (lockOf m) (g .log i) (h .waits) in
-      omega (arith, x .node, inside (m .count) (lockOf m) g (ok .inv) (x .thread) (λ a. a .registered) refl (x .registered))
+      omega (arith, x .node, inside (ok .inv) (x .thread) (λ a. a .registered) refl (x .registered))
 
   -- ── the queue ──
 
   live : Live (ticketsOf g)
-  live = live-queue g (waitOf (threadAt m) (nodeIn (m .nodes))) (ok .inv .queue .parts)
+  live = live-queue (ok .inv .queue .parts)
 
   range : (i : ℕ) → g .lo ≤ i → i < g .hi → g .log i ≤ m .count
   range i a b = in-range 0 i (ok .inv .queue .parts .queued i a b)
@@ -69,11 +69,11 @@ module _ (m : Machine) (ok : Ok m) where
   -- ── what thread t has taken off ──
 
   module _ (t : ℕ) where
-    abbrev part : Part
-    part = takenOf g t
+    abbrev part : Interval
+    part = takenBy g t
 
     mine-live : Live part
-    mine-live = live-taken g (waitOf (threadAt m) (nodeIn (m .nodes))) (ok .inv .queue .parts) t
+    mine-live = live-taken (ok .inv .queue .parts) t
 
     mine-range : (i : ℕ) → part .lo ≤ i → i < part .hi → g .log i ≤ m .count
     mine-range i a b = in-range (suc t) i (ok .inv .queue .parts .held t i a b .1)

@@ -18,7 +18,7 @@ use Rattle.word.specs.declared.number.NodeNumber.{NodeNumber}
 use Rattle.state.specs.declared.machine.Machine.{Machine}
 use Rattle.listing.specs.Listing.{Listed, listed, prepend, within, nodeBy, linkOf, stand, toTail, toSet}
 use Rattle.queue.specs.Sums.{pigeon}
-use Rattle.queue.specs.Queue.{Part, Live, Queue, Mine, Set}
+use Rattle.queue.specs.Queue.{Interval, Live, Queue, Mine, Set}
 use Rattle.invariant.specs.Table.{linksOf}
 use Rattle.invariant.specs.Bridge.{nodeIn}
 use Rattle.safety.specs.Lists.{backFrom}
@@ -74,7 +74,7 @@ module _ (m : Machine) where
   in-range : (k : ℕ) → k ≢ 0 → k ≤ m .count → within (m .count) (node k) ≡ true
   in-range k ne l = sym (pick-no (ltb k 1) true false (leb k (m .count)) (le-ltb k 1 (omega arith)) (sym (le-leb k (m .count) l)))
 
-  module _ (q : Part) (d : Live q) (range : (i : ℕ) → q .lo ≤ i → i < q .hi → q .log i ≤ m .count) where
+  module _ (q : Interval) (d : Live q) (range : (i : ℕ) → q .lo ≤ i → i < q .hi → q .log i ≤ m .count) where
     stood-on : (i : ℕ) → q .lo ≤ i → i < q .hi → (rest : Listed) → stand m (node (q .log i)) rest ≡ prepend (node (q .log i)) rest
     stood-on i a b rest = rw (in-range (q .log i) (d .some i a b) (range i a b))
 

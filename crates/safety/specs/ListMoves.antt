@@ -1,4 +1,4 @@
--- How the lists of waiters change when the tickets move: by each effect as its name says, and in no other way. Assumes nothing.
+-- How the lists of waiters change when the tickets move: by each effect as its name says, and in no other way. Assumes emptySpan.
 use Prim.Native.Nat.{ℕ, suc, _+_, _-_, _≤_, _<_}
 use mathlib.Core.Bool.{Bool, true, false}
 use mathlib.Core.List.{List, [], _∷_, _++_}
@@ -18,7 +18,7 @@ use Rattle.lock.specs.Event.{eventOf}
 use Rattle.promises.specs.Theorems.{changes-little, refusal-changes-nothing}
 use Rattle.lock.specs.Effect.{QueueEffect, stands, registers, setsAside, restores, takesTail, takesAll, completes}
 use Rattle.queue.specs.Updates.{upd, upd-same, upd-other}
-use Rattle.queue.specs.Tickets.{Ghost, Span, Parts, oldest, nothing, whole, rest}
+use Rattle.queue.specs.Tickets.{Ghost, Span, Parts, oldestSpan, emptySpan, wholeSpan, restSpan}
 use Rattle.invariant.specs.Table.{waitOf}
 use Rattle.invariant.specs.Moves.{Moved, AsideAfter}
 use Rattle.invariant.specs.Bridge.{nodeIn}
@@ -29,7 +29,7 @@ use Rattle.safety.specs.Intervals.{up, up-more, up-same, node-is}
 use Rattle.safety.specs.Held.{queue-is, held-is}
 use Rattle.safety.specs.Statements.{Event, after, effectIn, ListsAfter, Lists, Move}
 
--- the tickets of the queue, and of an interval, oldest first
+-- the tickets of the queue, and of an interval, oldestSpan first
 abbrev pub queueList : Ghost → List NodeNumber
 queueList g = up (g .log) (g .lo) (g .hi - g .lo)
 
@@ -65,7 +65,7 @@ module _ (g : Ghost) (wait : ℕ → Bool) (p : Parts g wait) (t : ℕ) where
     pub moves : HeldAfter e (queueList g) (heldList g t) (queueList g′) (heldList g′ t)
     pub others : (u : ℕ) → u ≢ t → heldList g′ u ≡ heldList g u
 
-  -- an interval of none, of one, and one's oldest apart
+  -- an interval of none, of one, and one's oldestSpan apart
   none-held : (s : Span) → s .end ≤ s .beg → spanList (g .log) s ≡ []
   none-held s e = let z : s .end - s .beg ≡ 0 = omega arith in rw z
 
@@ -105,12 +105,12 @@ module _ (g : Ghost) (wait : ℕ → Bool) (p : Parts g wait) (t : ℕ) where
           ∙ ap (λ i. queueList g ++ (node (upd (g .log) (g .hi) (suc t) i) ∷ [])) top
           ∙ ap (λ x. queueList g ++ (x ∷ [])) (ap node (upd-same (g .log) (g .hi) (suc t)) ∙ sym (node-is k (suc t) (sym (z .node)))))
   lists-after (setsAside k) g′ z = subst (After (setsAside k)) (sym (z .is)) (record {
-    moves = (first-held (g .lo) (g .hi) k (z .some) (z .node), none-held (g .taken t) (z .none), mine (oldest g) ∙ one-held (oldest g) k refl (z .node));
-    others = not-mine (oldest g);
+    moves = (first-held (g .lo) (g .hi) k (z .some) (z .node), none-held (g .taken t) (z .none), mine (oldestSpan g) ∙ one-held (oldestSpan g) k refl (z .node));
+    others = not-mine (oldestSpan g);
   })
   lists-after (restores k) g′ z = subst (After (restores k)) (sym (z .is)) (record {
-    moves = (back, one-held (g .taken t) k (omega (arith, z .one, z .end)) (z .node), mine (nothing (g .taken t .beg)) ∙ none-held (nothing (g .taken t .beg)) (omega arith));
-    others = not-mine (nothing (g .taken t .beg));
+    moves = (back, one-held (g .taken t) k (omega (arith, z .one, z .end)) (z .node), mine (emptySpan (g .taken t .beg)) ∙ none-held (emptySpan (g .taken t .beg)) (omega arith));
+    others = not-mine (emptySpan (g .taken t .beg));
   })
     where
       back : up (g .log) (g .taken t .beg) (g .hi - g .taken t .beg) ≡ k ∷ queueList g
@@ -120,12 +120,12 @@ module _ (g : Ghost) (wait : ℕ → Bool) (p : Parts g wait) (t : ℕ) where
     others = λ u ne. refl;
   })
   lists-after takesAll g′ z = subst (After takesAll) (sym (z .is)) (record {
-    moves = (none-held (nothing (g .hi)) (omega arith), none-held (g .taken t) (z .none), mine (whole g));
-    others = not-mine (whole g);
+    moves = (none-held (emptySpan (g .hi)) (omega arith), none-held (g .taken t) (z .none), mine (wholeSpan g));
+    others = not-mine (wholeSpan g);
   })
   lists-after (completes k) g′ z = subst (After (completes k)) (sym (z .is)) (record {
-    moves = (refl, first-held (g .taken t .beg) (g .taken t .end) k (z .some) (z .node) ∙ ap (λ l. k ∷ l) (sym (mine (rest g t))));
-    others = not-mine (rest g t);
+    moves = (refl, first-held (g .taken t .beg) (g .taken t .end) k (z .some) (z .node) ∙ ap (λ l. k ∷ l) (sym (mine (restSpan g t))));
+    others = not-mine (restSpan g t);
   })
 
 -- ── on the machine ──

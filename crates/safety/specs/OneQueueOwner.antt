@@ -20,8 +20,7 @@ use Rattle.queue.specs.Sums.{sum-some}
 use Rattle.queue.specs.Tests.{never}
 use Rattle.queue.specs.Updates.{eq?}
 use Rattle.invariant.specs.Table.{about, weight}
-use Rattle.invariant.specs.Beside.{inside, one-owner, unowned}
-use Rattle.invariant.specs.Bridge.{lockOf}
+use Rattle.invariant.specs.Exclusion.{inside, one-owner, unowned}
 use Rattle.invariant.specs.Events.{Ok}
 use Rattle.safety.specs.Lists.{asideBy}
 use Rattle.safety.specs.Parts.{same-part}
@@ -52,7 +51,7 @@ module _ (m : Machine) (ok : Ok m) where
 
   one : (t : ℕ) → OwnsQueue m t → OneOwner m t
   one t e = record {
-    below = inside (m .count) (lockOf m) (ok .ghost) (ok .inv) t (λ a. a .owner) refl (owning t e);
+    below = inside (ok .inv) t (λ a. a .owner) refl (owning t e);
     owns = e;
     only = λ u f. by u f (eq? u t);
   }
@@ -60,7 +59,7 @@ module _ (m : Machine) (ok : Ok m) where
       by : (u : ℕ) → OwnsQueue m u → (u ≡ t) ⊎ (u ≢ t) → u ≡ t
       by u f (inl i) = i
       by u f (inr ne) =
-          absurd (one-owner (m .count) (lockOf m) (ok .ghost) (ok .inv) u t (owning u f) (owning t e) ne)
+          absurd (one-owner (ok .inv) u t (owning u f) (owning t e) ne)
 
   some-owner : queueLocked (m .word) ≡ true → (t : ℕ) × OneOwner m t
   some-owner e =
@@ -70,6 +69,6 @@ module _ (m : Machine) (ok : Ok m) where
   pub owned : Owned m
   owned = record {
     locked = some-owner;
-    unlocked = λ e t f. never (unowned (m .count) (lockOf m) (ok .ghost) (ok .inv) e t) (owning t f);
+    unlocked = λ e t f. never (unowned (ok .inv) e t) (owning t f);
     setting-aside = λ k t i. one t (aside-owns m k (partOf (threadAt m t .place)) i);
   }

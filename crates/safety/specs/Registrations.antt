@@ -7,16 +7,13 @@ use native.Mathlib.Omega.{arith}
 use lib.ListN.{take}
 use Rattle.word.specs.Number.{node}
 use Rattle.word.specs.declared.number.NodeNumber.{NodeNumber}
-use Rattle.state.specs.Machine.{threadAt}
 use Rattle.state.specs.declared.machine.Machine.{Machine}
 use Rattle.lock.specs.Effect.{QueueEffect, stands, registers, setsAside, restores, takesTail, takesAll, completes}
 use Rattle.lock.specs.Event.{eventOf}
 use Rattle.listing.specs.Listing.{listed, waitersBy}
 use Rattle.queue.specs.Updates.{upd, upd-same, upd-other}
 use Rattle.queue.specs.Tickets.{Ghost, live-queue}
-use Rattle.invariant.specs.Table.{waitOf}
 use Rattle.invariant.specs.Moves.{Moved}
-use Rattle.invariant.specs.Bridge.{nodeIn}
 use Rattle.invariant.specs.Events.{Ok, event-safe}
 use Rattle.safety.specs.Intervals.{down, down-same, node-is}
 use Rattle.safety.specs.Held.{listing-is}
@@ -62,7 +59,10 @@ listing-made m made r = record {
   fine = ap (λ l. waitersBy l .verdict) (listing-is m (r .ok));
   waiting = g .hi - g .lo;
   is = listing-is m (r .ok) ∙ ap listed (sym newest);
-  once = subst NoRepeats (sym newest) (no-repeats (g .log) (g .lo) (g .hi - g .lo) (λ i j a b c d ne. live-queue g (waitOf (threadAt m) (nodeIn (m .nodes))) (r .ok .inv .queue .parts) .apart i j a (omega arith) c (omega arith) ne));
+  once =
+      subst NoRepeats (sym newest)
+      (no-repeats (g .log) (g .lo) (g .hi - g .lo)
+      (λ i j a b c d ne. live-queue (r .ok .inv .queue .parts) .apart i j a (omega arith) c (omega arith) ne));
 }
   where
     g : Ghost

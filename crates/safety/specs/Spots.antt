@@ -17,7 +17,7 @@ use Rattle.standing.specs.declared.part.Part.{Part}
 use Rattle.queue.specs.Tests.{never}
 use Rattle.queue.specs.Tickets.{Ghost, Held, Somewhere}
 use Rattle.invariant.specs.Table.{waitOf}
-use Rattle.invariant.specs.Beside.{inside}
+use Rattle.invariant.specs.Exclusion.{inside}
 use Rattle.invariant.specs.Wake.{Waiter-of, waiter-of}
 use Rattle.invariant.specs.Bridge.{nodeIn, lockOf}
 use Rattle.invariant.specs.Events.{Ok}
@@ -34,7 +34,7 @@ waiter-is m ok k w = (
   w .thread,
   ap node (sym (w .node) ∙ sym (add-one (w .thread))),
   record {
-    below = inside (m .count) (lockOf m) (ok .ghost) (ok .inv) (w .thread) (λ a. a .registered) refl (w .registered);
+    below = inside (ok .inv) (w .thread) (λ a. a .registered) refl (w .registered);
     registered = sym (same-part (threadAt m (w .thread) .place) .registered) ∙ w .registered;
     uncompleted = ap (λ j. lockOf m .nd j .completed) (w .node) ∙ w .open-node;
   },

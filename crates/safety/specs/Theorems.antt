@@ -17,7 +17,7 @@ use Rattle.schedule.specs.Whole.{fileReplayOf}
 use Rattle.queue.specs.Sums.{sum-zero}
 use Rattle.invariant.specs.Invariant.{readers}
 use Rattle.invariant.specs.Wake.{waiter-of}
-use Rattle.invariant.specs.Steps.{Waiting, touches, marks}
+use Rattle.invariant.specs.Steps.{WaitingNode, touches, marks}
 use Rattle.invariant.specs.Bridge.{lockOf}
 use Rattle.invariant.specs.Events.{Ok}
 use Rattle.safety.specs.Statements.{reached, CountStays, holdersOf, Plainly, PlainLock, MutualExclusion}
@@ -121,8 +121,8 @@ never-eight n es e = event-not-eight (reached n es) (reached-ok n es) (e .code) 
 pub touched-alive : TouchedAlive eventOf
 touched-alive n es t =
     record {
-      accessed = accessed (touches (m .count) (lockOf m) (ok .ghost) (ok .inv) t (threadAt m (t .0) .place) refl);
-      marked = read (marks (m .count) (lockOf m) (ok .ghost) (ok .inv) (t .0) (threadAt m (t .0) .place) refl);
+      accessed = accessed (touches (ok .inv) t (threadAt m (t .0) .place) refl);
+      marked = read (marks (ok .inv) (t .0) (threadAt m (t .0) .place) refl);
     }
   where
     m : Machine
@@ -132,7 +132,7 @@ touched-alive n es t =
     ok = reached-ok n es
 
     WaitingIn : NodeNumber → Type 0
-    WaitingIn k = Waiting (reached n es .count) (lockOf (reached n es)) (ok .ghost) (ok .inv) (k .0)
+    WaitingIn k = WaitingNode (ok .inv) (k .0)
 
     waits : (k : NodeNumber) → WaitingIn k → Waits (reached n es) k
     waits k w = waiter-is (reached n es) ok (k .0) (waiter-of (lockOf (reached n es)) (k .0) w)
