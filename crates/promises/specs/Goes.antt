@@ -2,8 +2,7 @@
 -- where a walk for unlock queue ends, the tail's writer mark; and the own node, filled or not, by where its thread then
 -- stands. Document 01's step rules, one row a place, in the order of docs/PLACES.md. First what a judged word leads to,
 -- in the order of document 01's step rules: try_read, contend, find tail, unlock queue, read_unlock.
--- Not here: what is found and what is left at the access (Tables.antt). That a step follows the tables:
--- Statements.antt.
+-- Not here: what is found and what is left at the access (Tables.antt); that a step follows them (Statements.antt).
 -- Assumes nothing.
 use Prim.Native.Nat.{ℕ, _+_, _-_}
 use mathlib.Core.Bool.{Bool, true, false}

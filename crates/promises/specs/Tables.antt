@@ -1,5 +1,4 @@
--- The tables of docs/PLACES.md, for a reader to hold beside document 01: place, what was found at its access, what
--- follows.
+-- The tables of docs/PLACES.md, to hold beside document 01: place, what was found at its access, what follows.
 -- In order: what is found; where a call begins; the word that a place goes by; what is left at the access; the places
 -- that the statements on grants name apart. Every table has its rows in the order of docs/PLACES.md.
 -- Not here: where a step goes on to and which node it fills (Goes.antt); the access of a place (state, Access.antt);

@@ -1,6 +1,7 @@
--- Wrong programs, each a definition, and that it breaks a statement of Statements.antt: a computed counterexample. In
--- order: document 01's four ('How tightly it is held'); the mistakes of students' programs; rules that read too much,
--- end wrongly or treat the token wrongly; rules that only the tables tell from the right ones.
+-- Wrong programs, each a definition, and that it breaks a statement of Statements.antt: a computed counterexample.
+-- In order: document 01's four ('How tightly it is held'); the mistakes of students' programs; rules that end wrongly,
+-- that read more than their access, that go by an old word, that treat the token wrongly; rules that only the tables
+-- tell from the right ones.
 -- Not here, since they break a statement over runs or files: the replayer that invents the number of events run (crate
 -- schedule, WrongReplay.antt); counting readers in the word while QUEUED is set (crate safety, WrongRuns.antt).
 -- Assumes nothing.
