@@ -40,7 +40,7 @@ use Rattle.invariant.specs.Frames.{moved, waits-as, view, glide}
 use Rattle.invariant.specs.Moves.{Completes, Went, stood, completes-more, completes-waits, completes-ends}
 use Rattle.invariant.specs.Kept.{wokenIn, Kept, kept-still, placed, Goes}
 use Rattle.invariant.specs.On.{alike-wake, unlinked, stroll}
-use Rattle.invariant.specs.Tokens.{inv-token-set}
+use Rattle.invariant.specs.Tokens.{tokened, inv-tokens}
 
 links-completed : (nd : ℕ → Node) (k : ℕ) → linksOf (upd nd k (withCompleted (nd k))) ≡ linksOf nd
 links-completed nd k = λ i. record {
@@ -218,7 +218,11 @@ module _ (n : ℕ) (few : n ≤ threadLimit) (s : Lock) (g : Ghost) (i : Inv n s
     called-first = moved s (whom .thread) (s .word) (tokenedOf (s .th (whom .thread))) (s .nd)
 
     with-token : Inv n called-first g
-    with-token = inv-token-set n s g i (whom .thread) within
+    with-token = inv-tokens n s g (called-first .th) i
+        (upd-cases (λ j y. y ≡ tokened (s .th j) (y .token)) (s .th) (whom .thread)
+        (tokenedOf (s .th (whom .thread))) refl (λ j ne. refl))
+        (upd-cases (λ j y. aboutAt s j .asleep ≡ true → s .nd (suc j) .completed ≡ true → y .token ≡ true)
+        (s .th) (whom .thread) (tokenedOf (s .th (whom .thread))) (λ _ _. refl) (λ j ne. i .token j))
 
     same-place : called-first .th (me .0) .place ≡ s .th (me .0) .place
     same-place = upd-cases (λ j y. y .place ≡ s .th j .place) (s .th) (whom .thread) (tokenedOf (s .th (whom .thread))) refl (λ j ne. refl) (me .0)
