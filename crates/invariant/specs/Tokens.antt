@@ -1,43 +1,69 @@
--- Tokens from outside: the invariant survives a token that is set, and one that is cleared while its thread is not at park. Assumes nothing.
-use Prim.Native.Nat.{ℕ, suc, _<_}
-use mathlib.Core.Bool.{Bool, true, false}
-use mathlib.Core.Logic.{inl}
-use mathlib.Core.Path.{_≡_, refl, sym, subst}
+-- Tokens from outside: the invariant survives any change of tokens that leaves one to whoever is asleep and completed.
+-- So a token may be set anywhere, and cleared wherever its thread is not asleep. A completion's own token is Wake.antt's.
+-- Assumes nothing.
+use Prim.Native.Nat.{ℕ, zero, suc}
+use mathlib.Core.Bool.{Bool, true}
+use mathlib.Core.Path.{_≡_, refl, sym, subst, fun-ext}
 use Rattle.state.specs.declared.machine.Thread.{Thread}
-use Rattle.queue.specs.Tests.{never}
 use Rattle.queue.specs.Tickets.{Ghost}
 use Rattle.queue.specs.Invariant as Q
 use Rattle.invariant.specs.Table.{Lock, aboutAt, linksOf, waitOf, roleOf}
-use Rattle.invariant.specs.Invariant.{queueOf, Inv}
-use Rattle.invariant.specs.Frames.{moved, waits-as, view, stay}
+use Rattle.invariant.specs.Invariant.{Responsible, contends, called, wakes, Inv}
 
--- thread t's token is b
+-- the same record with token b
 abbrev pub tokened : Thread → Bool → Thread
 tokened x b = record { place = x .place; token = b; holding = x .holding }
 
-module _ (n : ℕ) (s : Lock) (g : Ghost) (i : Inv n s g) (t : ℕ) (tin : t < n) where
-  with-token : (b : Bool) → (aboutAt s t .asleep ≡ true → s .nd (suc t) .completed ≡ true → b ≡ true) → Inv n (moved s t (s .word) (tokened (s .th t) b) (s .nd)) g
-  with-token b called = stay n s g t (tokened (s .th t) b) (s .nd) i (record {
-    queue = subst (λ z. Q.Inv g z) (sym (view s t (tokened (s .th t) b) (s .nd) (s .word) (linksOf (s .nd)) (waitOf (s .th) (s .nd)) refl (waits-as s t (tokened (s .th t) b) (s .nd) (waitOf (s .th) (s .nd)) refl refl (λ u ne. refl)))) (Q.turn g (queueOf s) (i .queue) t (roleOf (s .th) t) (i .queue .know t) (i .queue .free t));
-    inside = tin;
-    holding = refl;
-    completed = λ u ne. refl;
-    next = λ r. refl;
-    owner = refl;
-    leaving = refl;
-    may = i .holding t;
-    needs = i .needs t;
-    plain = i .plain t;
-    calm = λ r. i .calm r t;
-    fits = i .fits t;
-    clear = i .clear t;
-    token = called;
-    contending = λ e. e;
-    called = λ e d. inl (e, d);
-  })
+abbrev retokened : Lock → (ℕ → Bool) → Lock
+retokened s b = record { word = s .word; th = λ t. tokened (s .th t) (b t); nd = s .nd }
 
-  pub inv-token-set : Inv n (moved s t (s .word) (tokened (s .th t) true) (s .nd)) g
-  inv-token-set = with-token true (λ _ _. refl)
+-- the same nodes wait
+waits-same : (s : Lock) (b : ℕ → Bool) → waitOf (s .th) (s .nd) ≡ waitOf (retokened s b .th) (s .nd)
+waits-same s b = fun-ext λ k. at k
+  where
+    at : (k : ℕ) → waitOf (s .th) (s .nd) k ≡ waitOf (retokened s b .th) (s .nd) k
+    at zero = refl
+    at (suc t) = refl
 
-  pub inv-token-cleared : aboutAt s t .asleep ≡ false → Inv n (moved s t (s .word) (tokened (s .th t) false) (s .nd)) g
-  inv-token-cleared awake = with-token false (never awake)
+-- the same threads see to the queue
+responsible-same : (s : Lock) (g : Ghost) (b : ℕ → Bool) (t : ℕ) → Responsible s g t → Responsible (retokened s b) g t
+responsible-same s g b t (contends e) = contends e
+responsible-same s g b t (called e d) = called e d
+responsible-same s g b t (wakes l) = wakes l
+
+inv-retokened : (n : ℕ) (s : Lock) (g : Ghost) (b : ℕ → Bool) → Inv n s g
+    → ((t : ℕ) → aboutAt s t .asleep ≡ true → s .nd (suc t) .completed ≡ true → b t ≡ true)
+    → Inv n (retokened s b) g
+inv-retokened n s g b i kept = record {
+  queue =
+      subst (λ w. Q.Inv g (record { links = linksOf (s .nd); wait = w; role = roleOf (s .th) })) (waits-same s b)
+      (i .queue);
+  newest = i .newest;
+  nobody = i .nobody;
+  handed = i .handed;
+  bare = i .bare;
+  owners = i .owners;
+  holding = i .holding;
+  outside = i .outside;
+  unheld = i .unheld;
+  count = i .count;
+  needs = i .needs;
+  plain = i .plain;
+  counted = λ r. i .counted (record { some = r .some; queue = r .queue; plain = r .plain });
+  calm = λ r. i .calm (record { some = r .some; queue = r .queue; plain = r .plain });
+  clear = i .clear;
+  fits = i .fits;
+  token = kept;
+  seen-to = λ q l o.
+      let x : (t : ℕ) × Responsible s g t = i .seen-to q l o in (x .0, responsible-same s g b (x .0) (x .1));
+}
+
+-- the threads th differ from those of s in their tokens alone
+pub inv-tokens : (n : ℕ) (s : Lock) (g : Ghost) (th : ℕ → Thread) → Inv n s g
+    → ((t : ℕ) → th t ≡ tokened (s .th t) (th t .token))
+    → ((t : ℕ) → aboutAt s t .asleep ≡ true → s .nd (suc t) .completed ≡ true → th t .token ≡ true)
+    → Inv n (record { word = s .word; th = th; nd = s .nd }) g
+inv-tokens n s g th i alone kept =
+    subst (λ (x : ℕ → Thread). Inv n (record { word = s .word; th = x; nd = s .nd }) g)
+    (sym (fun-ext alone))
+    (inv-retokened n s g (λ t. th t .token) i kept)

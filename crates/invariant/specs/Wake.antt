@@ -39,7 +39,7 @@ use Rattle.invariant.specs.Frames.{moved, waits-as, glide, viewed}
 use Rattle.invariant.specs.Moves.{Completes, Went, completes-more, completes-waits, completes-ends}
 use Rattle.invariant.specs.Kept.{wokenIn, Kept, placed, Goes, Setting, mine, kept-stood}
 use Rattle.invariant.specs.OnQueue.{alike-wake, unlinked, goes-on-queue}
-use Rattle.invariant.specs.Tokens.{inv-token-set}
+use Rattle.invariant.specs.Tokens.{tokened, inv-tokens}
 use Rattle.invariant.specs.TableFacts.{OwnsNothing, owns-nothing-waiting, owns-nothing-idle, owns-nothing-waking}
 
 links-completed : (nd : ℕ → Node) (k : ℕ) → linksOf (upd nd k (withCompleted (nd k))) ≡ linksOf nd
@@ -271,7 +271,11 @@ module _ (st : Setting) (few : st .n ≤ threadLimit) (who : Who) (current : Nod
     called-first = moved s (whom .thread) (s .word) (tokenedOf (s .th (whom .thread))) (s .nd)
 
     with-token : Inv n called-first g
-    with-token = inv-token-set n s g i (whom .thread) within
+    with-token = inv-tokens n s g (called-first .th) i
+        (upd-cases (λ j y. y ≡ tokened (s .th j) (y .token)) (s .th) (whom .thread)
+        (tokenedOf (s .th (whom .thread))) refl (λ j ne. refl))
+        (upd-cases (λ j y. aboutAt s j .asleep ≡ true → s .nd (suc j) .completed ≡ true → y .token ≡ true)
+        (s .th) (whom .thread) (tokenedOf (s .th (whom .thread))) (λ _ _. refl) (λ j ne. i .token j))
 
     same-place : called-first .th (me .0) .place ≡ mine st .place
     same-place =

@@ -6,6 +6,11 @@ pub mod Landed
 pub mod Step
 pub mod Event
 pub mod Laws
+pub mod Look
+pub mod Decide
+pub mod Store
+pub mod StoreLaws
+pub mod EventDecides
 pub mod Effect
 pub mod Determined
 pub mod Stored

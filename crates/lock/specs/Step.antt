@@ -98,23 +98,14 @@ viewAt m me k fails p =
       fails = fails;
     }
 
-abbrev pub viewOf : Machine → ThreadNumber → ℕ → Bool → View
-viewOf m me k fails = viewAt m me k fails (threadAt m (me .0) .place)
-
 -- the rule of the place, and what it changed stored
 abbrev pub reachedAt : Machine → ThreadNumber → ℕ → Bool → Place → Outcome
 reachedAt m me k fails p = landedOf m (me .0) k (advanceOf (viewAt m me k fails p) p)
-
-abbrev pub reachedOf : Machine → ThreadNumber → ℕ → Bool → Outcome
-reachedOf m me k fails = reachedAt m me k fails (threadAt m (me .0) .place)
 
 -- 8: the access would touch a node outside 1..count
 abbrev pub touchingBy : Machine → ThreadNumber → Bool → Place → Slot → Outcome
 touchingBy m me fails p Outside = refusedOf m Damaged
 touchingBy m me fails p (At k) = reachedAt m me k fails p
-
-abbrev pub touchingOf : Machine → ThreadNumber → NodeNumber → Bool → Outcome
-touchingOf m me node fails = touchingBy m me fails (threadAt m (me .0) .place) (slotOf node (m .count))
 
 abbrev pub stepBy : Machine → ThreadNumber → Bool → Place → Verdict → Outcome
 stepBy m me fails p (Refused r) = refusedOf m r

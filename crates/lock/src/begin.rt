@@ -1,22 +1,20 @@
-// Beginning a call: refused inside a call or on the wrong holding, else the thread stands at the call's first access.
+// Beginning a call: refused inside a call or on the wrong holding, else nothing shared changes and the thread stands at
+// the call's first access.
 ghost use mathlib.Core.Path.{_≡_};
-ghost use Prim.Native.Nat.{_<_};
-ghost use Rattle.state.specs.Machine.{threadLimit};
-ghost use Rattle.lock.specs.Begin.{firstPlace, holdsNothing, mayBegin, isIdle, placedOf, beginOf, beganOf};
+ghost use Rattle.lock.specs.Begin.{firstPlace, holdsNothing, mayBegin, isIdle};
+ghost use Rattle.lock.specs.Decide.{beginVerdict, beginsIn};
 use crate::code::Call;
-use crate::record::thread_at;
-use crate::record::with_thread;
+use crate::look::Look;
 use state::Access;
 use state::Answer;
 use state::Holding;
 use state::Kind;
-use state::Machine;
-use state::Outcome;
+use state::Next;
 use state::Place;
 use state::Refusal;
-use state::Reply;
+use state::Stepped;
 use state::Thread;
-use word::Owner;
+use state::Verdict;
 use word::ThreadNumber;
 
 fn first_place(call: Call) -> Place
@@ -57,32 +55,6 @@ fn may_begin(call: Call, holding: Holding) -> bool
     }
 }
 
-// The thread's record with another place.
-fn placed(t: Thread, place: Place) -> Thread
-    ensures { λ r. ⌜ r ≡ placedOf t place ⌝ }
-{
-    let holding = t.holding;
-    Thread {
-        place: place,
-        token: t.token,
-        holding: holding,
-    }
-}
-
-fn began(m: Machine, i: usize, call: Call) -> Outcome
-    requires { ⌜ i < threadLimit ⌝ }
-    ensures { λ r. ⌜ r ≡ beganOf m i call ⌝ }
-{
-    let t = placed(thread_at(m, i), first_place(call));
-    Outcome {
-        machine: with_thread(m, i, t),
-        reply: Reply::Accepted {
-            answer: Answer::Begun,
-            woken: Owner::Nobody,
-        },
-    }
-}
-
 fn is_idle(place: Place) -> bool
     ensures { λ r. ⌜ r ≡ isIdle place ⌝ }
 {
@@ -101,18 +73,29 @@ fn is_idle(place: Place) -> bool
     }
 }
 
-pub(crate) fn begin(m: Machine, i: usize, call: Call) -> Outcome
-    requires { ⌜ i < threadLimit ⌝ }
-    ensures { λ r. ⌜ r ≡ beginOf m i call ⌝ }
+// 3 inside a call, then 4.
+fn begin_verdict(t: Thread, call: Call) -> Verdict
+    ensures { λ r. ⌜ r ≡ beginVerdict t call ⌝ }
 {
-    let t = thread_at(m, i);
     let place = t.place;
     let holding = t.holding;
-    if is_idle(place) {
-        if may_begin(call, holding) {
-            return began(m, i, call);
-        }
-        return m.refused(Refusal::WrongHolding);
+    if !is_idle(place) {
+        return Verdict::Refused(Refusal::InsideCall);
     }
-    m.refused(Refusal::InsideCall)
+    if !may_begin(call, holding) {
+        return Verdict::Refused(Refusal::WrongHolding);
+    }
+    Verdict::Fine
+}
+
+pub(crate) fn begins(look: Look, call: Call) -> Stepped
+    ensures { λ r. ⌜ r ≡ beginsIn look call ⌝ }
+{
+    match begin_verdict(look.thread, call) {
+        Verdict::Refused(r) => Stepped::Refused(r),
+        Verdict::Fine => look.view(false).stays(Next {
+            place: first_place(call),
+            answer: Answer::Begun,
+        }),
+    }
 }

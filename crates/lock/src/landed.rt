@@ -1,12 +1,13 @@
-// What a step did is stored in the machine: the word, one node, the thread's record, and then the token of the thread
-// woken, which may be the same one.
+// What was decided is stored: the word, the node looked at, the thread's record, then the token of the thread woken. A
+// refused event leaves the machine as it was.
 ghost use mathlib.Core.Path.{_≡_};
 ghost use Prim.Native.Nat.{_<_};
 ghost use Rattle.state.specs.Machine.{threadLimit};
-ghost use Rattle.lock.specs.Landed.{tokenedOf, wokenOf, storedOf, appliedOf, landedOf, tokenSet};
-use crate::record::thread_at;
-use crate::record::with_node;
-use crate::record::with_thread;
+ghost use Rattle.lock.specs.Landed.{appliedOf};
+ghost use Rattle.lock.specs.Store.{setsToken, tokenIndex, tokenedIf, landedIn};
+use crate::look::Look;
+use crate::look::thread_index;
+use crate::look::touched_index;
 use state::Change;
 use state::Machine;
 use state::Outcome;
@@ -15,59 +16,58 @@ use state::Stepped;
 use state::THREADS;
 use state::Thread;
 use word::Owner;
-use word::ThreadNumber;
 
-fn tokened(t: Thread) -> Thread
-    ensures { λ r. ⌜ r ≡ tokenedOf t ⌝ }
-{
-    let place = t.place;
-    let holding = t.holding;
-    Thread {
-        place: place,
-        token: true,
-        holding: holding,
-    }
-}
-
-fn set_token(m: Machine, thread: ThreadNumber) -> Machine
-    ensures { λ r. ⌜ r ≡ tokenSet m thread ⌝ }
-{
-    let i = thread.0 as usize;
-    if i < THREADS {
-        return with_thread(m, i, tokened(thread_at(m, i)));
-    }
-    m
-}
-
-fn wake(m: Machine, woken: Owner) -> Machine
-    ensures { λ r. ⌜ r ≡ wokenOf m woken ⌝ }
+fn sets_token(woken: Owner) -> bool
+    ensures { λ r. ⌜ r ≡ setsToken woken ⌝ }
 {
     match woken {
-        Owner::Nobody => m,
-        Owner::Thread(t) => set_token(m, t),
+        Owner::Nobody => false,
+        Owner::Thread(t) => (t.0 as usize) < THREADS,
     }
 }
 
-fn stored(m: Machine, i: usize, k: usize, c: Change) -> Machine
-    requires { ⌜ (i < threadLimit) × (k < threadLimit) ⌝ }
-    ensures { λ r. ⌜ r ≡ storedOf m i k c ⌝ }
+// Where the record lies that is stored for the token; some record, where nobody is woken.
+fn token_index(woken: Owner) -> usize
+    ensures { λ r. ⌜ (r ≡ tokenIndex woken) × (r < threadLimit) ⌝ }
 {
-    let n = c.node;
-    let t = c.thread;
-    let mut to = with_thread(with_node(m, k, n), i, t);
-    let w = c.word;
-    to.word = w;
+    match woken {
+        Owner::Nobody => 0,
+        Owner::Thread(t) => thread_index(t),
+    }
+}
+
+fn tokened(t: Thread, sets: bool) -> Thread
+    ensures { λ r. ⌜ r ≡ tokenedIf t sets ⌝ }
+{
+    let mut to = t;
+    if sets {
+        to.token = true;
+        return to;
+    }
     to
 }
 
-fn applied(m: Machine, i: usize, k: usize, c: Change) -> Outcome
+// The thread's record first and then the token, so that a thread which wakes itself keeps both. For the token a record
+// is always stored, as it is where nobody is woken: so storing has no branch.
+fn applied(first: Machine, i: usize, k: usize, c: Change) -> Outcome
     requires { ⌜ (i < threadLimit) × (k < threadLimit) ⌝ }
-    ensures { λ r. ⌜ r ≡ appliedOf m i k c ⌝ }
+    ensures { λ r. ⌜ r ≡ appliedOf first i k c ⌝ }
 {
-    let answer = c.answer;
+    let mut m = first;
+    let word = c.word;
+    let node = c.node;
+    let thread = c.thread;
     let woken = c.woken;
+    let answer = c.answer;
+    m.word = word;
+    m.nodes[k] = node;
+    m.threads[i] = thread;
+    let j = token_index(woken);
+    let t = m.threads[j];
+    let to = tokened(t, sets_token(woken));
+    m.threads[j] = to;
     Outcome {
-        machine: wake(stored(m, i, k, c), woken),
+        machine: m,
         reply: Reply::Accepted {
             answer: answer,
             woken: woken,
@@ -75,13 +75,15 @@ fn applied(m: Machine, i: usize, k: usize, c: Change) -> Outcome
     }
 }
 
-// A refused step leaves the machine as it was.
-pub(crate) fn land(m: Machine, i: usize, k: usize, stepped: Stepped) -> Outcome
-    requires { ⌜ (i < threadLimit) × (k < threadLimit) ⌝ }
-    ensures { λ r. ⌜ r ≡ landedOf m i k stepped ⌝ }
+pub(crate) fn land(m: Machine, look: Look, stepped: Stepped) -> Outcome
+    ensures { λ r. ⌜ r ≡ landedIn m look stepped ⌝ }
 {
     match stepped {
-        Stepped::To(c) => applied(m, i, k, c),
+        Stepped::To(c) => {
+            let i = thread_index(look.me);
+            let k = touched_index(look.count, look.me, look.thread);
+            applied(m, i, k, c)
+        }
         Stepped::Refused(r) => m.refused(r),
     }
 }

@@ -1,22 +1,16 @@
-// A step, or a step that fails for no cause: refusals 5, 6 and 7 by the kind of access, then the node touched, then the place.
+// A step, or a step that fails for no cause: refused by the kind of its access and by the node that it lies in, else by
+// the rule of its place.
 ghost use mathlib.Core.Path.{_≡_};
-ghost use Prim.Native.Nat.{_<_, _≤_};
-ghost use Rattle.state.specs.Machine.{threadLimit};
-ghost use Rattle.lock.specs.Step.{failingOf, parkingOf, haltedOf, markedOf, markAt, markOf, viewOf, reachedOf, touchingOf, stepOf};
+ghost use Rattle.lock.specs.Step.{failingOf, parkingOf, haltedOf};
+ghost use Rattle.lock.specs.Decide.{touchVerdict, stepVerdict, stepsIn};
 use crate::advance::advance;
-use crate::landed::land;
-use crate::record::node_at;
-use crate::record::thread_at;
+use crate::look::Look;
 use state::Access;
 use state::Kind;
-use state::Machine;
-use state::Mark;
-use state::Outcome;
-use state::Place;
 use state::Refusal;
+use state::Stepped;
+use state::Thread;
 use state::Verdict;
-use state::View;
-use word::NodeNumber;
 use word::Slot;
 use word::ThreadNumber;
 
@@ -59,93 +53,36 @@ fn halted(kind: Kind, token: bool, fails: bool) -> Verdict
     }
 }
 
-// The node whose writer mark the local code of a step reads: the tail that a walk found.
-fn marked(place: Place) -> NodeNumber
-    ensures { λ r. ⌜ r ≡ markedOf place ⌝ }
+// 8 where the access would touch a node outside 1..count.
+fn touch_verdict(slot: Slot, halted: Verdict) -> Verdict
+    ensures { λ r. ⌜ r ≡ touchVerdict slot halted ⌝ }
 {
-    match place {
-        Place::WalkHead {
-            walk: _,
-            seen: _,
-            tail,
-        } => tail,
-        _ => NodeNumber(0),
+    if let Verdict::Refused(r) = halted {
+        return Verdict::Refused(r);
+    }
+    match slot {
+        Slot::Outside => Verdict::Refused(Refusal::Damaged),
+        Slot::At(_) => Verdict::Fine,
     }
 }
 
-fn mark_at(m: Machine, k: usize) -> Mark
-    requires { ⌜ k < threadLimit ⌝ }
-    ensures { λ r. ⌜ r ≡ markAt m k ⌝ }
+// 5, 6 and 7 by the kind of the access, then 8.
+fn step_verdict(count: u8, me: ThreadNumber, t: Thread, fails: bool) -> Verdict
+    ensures { λ r. ⌜ r ≡ stepVerdict count me t fails ⌝ }
 {
-    let n = node_at(m, k);
-    if n.writer {
-        return Mark::Writer;
-    }
-    Mark::Reader
-}
-
-fn mark_of(m: Machine, tail: NodeNumber) -> Mark
-    requires { ⌜ m .count ≤ threadLimit ⌝ }
-    ensures { λ r. ⌜ r ≡ markOf m tail ⌝ }
-{
-    match tail.slot(m.count) {
-        Slot::Outside => Mark::Missing,
-        Slot::At(k) => mark_at(m, k),
-    }
-}
-
-fn view(m: Machine, me: ThreadNumber, k: usize, fails: bool) -> View
-    requires { ⌜ (m .count ≤ threadLimit) × ((me .0 < threadLimit) × (k < threadLimit)) ⌝ }
-    ensures { λ r. ⌜ r ≡ viewOf m me k fails ⌝ }
-{
-    let i = me.0 as usize;
-    let t = thread_at(m, i);
-    let place = t.place;
-    let holding = t.holding;
-    let n = node_at(m, k);
-    let w = m.word;
-    View {
-        me: me,
-        word: w,
-        node: n,
-        mark: mark_of(m, marked(place)),
-        token: t.token,
-        holding: holding,
-        fails: fails,
-    }
-}
-
-fn reached(m: Machine, me: ThreadNumber, k: usize, fails: bool) -> Outcome
-    requires { ⌜ (m .count ≤ threadLimit) × ((me .0 < threadLimit) × (k < threadLimit)) ⌝ }
-    ensures { λ r. ⌜ r ≡ reachedOf m me k fails ⌝ }
-{
-    let i = me.0 as usize;
-    let t = thread_at(m, i);
-    let place = t.place;
-    land(m, i, k, advance(view(m, me, k, fails), place))
-}
-
-fn touching(m: Machine, me: ThreadNumber, node: NodeNumber, fails: bool) -> Outcome
-    requires { ⌜ (m .count ≤ threadLimit) × (me .0 < threadLimit) ⌝ }
-    ensures { λ r. ⌜ r ≡ touchingOf m me node fails ⌝ }
-{
-    match node.slot(m.count) {
-        Slot::Outside => m.refused(Refusal::Damaged),
-        Slot::At(k) => reached(m, me, k, fails),
-    }
-}
-
-pub(crate) fn step(m: Machine, me: ThreadNumber, fails: bool) -> Outcome
-    requires { ⌜ (m .count ≤ threadLimit) × (me .0 < threadLimit) ⌝ }
-    ensures { λ r. ⌜ r ≡ stepOf m me fails ⌝ }
-{
-    let i = me.0 as usize;
-    let t = thread_at(m, i);
     let place = t.place;
     let access = Access::of(me, place);
     let kind = access.kind;
-    match halted(kind, t.token, fails) {
-        Verdict::Refused(r) => m.refused(r),
-        Verdict::Fine => touching(m, me, access.touched(me), fails),
+    touch_verdict(access.touched(me).slot(count), halted(kind, t.token, fails))
+}
+
+pub(crate) fn steps(look: Look, fails: bool) -> Stepped
+    ensures { λ r. ⌜ r ≡ stepsIn look fails ⌝ }
+{
+    let t = look.thread;
+    let place = t.place;
+    match step_verdict(look.count, look.me, t, fails) {
+        Verdict::Refused(r) => Stepped::Refused(r),
+        Verdict::Fine => advance(look.view(fails), place),
     }
 }
