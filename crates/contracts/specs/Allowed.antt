@@ -30,3 +30,7 @@ clash e = omega arith
 -- two results are not equal if they differ in a number
 pub apart-by : {R : Type 0} {r x : R} (look : R → ℕ) → eqb (look r) (look x) ≡ false → r ≡ x → ⊥
 apart-by {r = r} {x = x} look t e = eqb-false (look r) (look x) t (ap look e)
+
+-- nor if they differ in a part
+pub apart-in : {R X : Type 0} {r x : R} (look : R → X) → (look r ≡ look x → ⊥) → r ≡ x → ⊥
+apart-in look differ e = differ (ap look e)

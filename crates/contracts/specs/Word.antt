@@ -53,7 +53,7 @@ pub is-none-determined : (n : NodeNumber) → Determined (allows is-none.Post (n
 is-none-determined n = determined
 
 pub is-none-denied-of-zero : allows is-none.Post (node 0 & tt) false → ⊥
-is-none-denied-of-zero e = false≢true e
+is-none-denied-of-zero = false≢true
 
 pub is-none-said-of-the-first : allows is-none.Post (node 1 & tt) true → ⊥
 is-none-said-of-the-first e = false≢true (sym e)
@@ -88,7 +88,7 @@ pub locked-read-off-queued : allows locked.Post (word 2 & tt) true → ⊥
 locked-read-off-queued e = false≢true (sym e)
 
 pub locked-missed-beside-a-reader : allows locked.Post (word 17 & tt) false → ⊥
-locked-missed-beside-a-reader e = false≢true e
+locked-missed-beside-a-reader = false≢true
 
 pub queued-determined : (w : Word) → Determined (allows queued.Post (w & tt))
 queued-determined w = determined
@@ -97,7 +97,7 @@ pub queued-read-off-locked : allows queued.Post (word 17 & tt) true → ⊥
 queued-read-off-locked e = false≢true (sym e)
 
 pub queued-missed-with-the-queue-locked : allows queued.Post (word 22 & tt) false → ⊥
-queued-missed-with-the-queue-locked e = false≢true e
+queued-missed-with-the-queue-locked = false≢true
 
 pub queue-locked-determined : (w : Word) → Determined (allows queue-locked.Post (w & tt))
 queue-locked-determined w = determined
@@ -106,7 +106,7 @@ pub queue-locked-read-off-queued : allows queue-locked.Post (word 18 & tt) true 
 queue-locked-read-off-queued e = false≢true (sym e)
 
 pub queue-locked-missed : allows queue-locked.Post (word 22 & tt) false → ⊥
-queue-locked-missed e = false≢true e
+queue-locked-missed = false≢true
 
 pub downgraded-determined : (w : Word) → Determined (allows downgraded.Post (w & tt))
 downgraded-determined w = determined
@@ -115,7 +115,7 @@ pub downgraded-read-off-the-number : allows downgraded.Post (word 16 & tt) true 
 downgraded-read-off-the-number e = false≢true (sym e)
 
 pub downgraded-missed : allows downgraded.Post (word 31 & tt) false → ⊥
-downgraded-missed e = false≢true e
+downgraded-missed = false≢true
 
 pub set-locked-determined : (w : Word) → Determined (allows set-locked.Post (w & tt))
 set-locked-determined w = determined
