@@ -3,3 +3,7 @@ pub mod Looks
 pub mod Examples
 pub mod Word
 pub mod State
+pub mod Walk
+pub mod Acquire
+pub mod Unlock
+pub mod Release
