@@ -7,3 +7,6 @@ pub mod Walk
 pub mod Acquire
 pub mod Unlock
 pub mod Release
+pub mod Lock
+pub mod Listing
+pub mod Schedule

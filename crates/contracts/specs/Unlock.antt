@@ -1,5 +1,5 @@
 -- The contracts of crate unlock: each public function's result is determined, and wrong answers that its contract
--- rules out. What follows a walk, then unlock queue. Node 2 is the newest waiter and node 1 the oldest. Assumes nothing.
+-- rules out. What follows a walk, then unlock queue. Node 2 is the newest waiter, node 1 the oldest. Assumes nothing.
 use Prim.Native.Nat.{ℕ}
 use mathlib.Core.Bool.{true}
 use mathlib.Core.Path.{refl}
