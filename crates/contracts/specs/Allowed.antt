@@ -17,9 +17,8 @@ use contract.Lifetimes.{Lfts}
 use native.Mathlib.Omega.{arith}
 use borrow.Author.Tests.{eqb-false}
 
-infixr 20 _&_
-
 -- a function's arguments, one after the other, closed by tt
+infixr 20 _&_
 abbrev pub _&_ : {A B : Type 0} → A → B → A × B
 _&_ a b = (a, b)
 

@@ -10,3 +10,7 @@ pub mod Release
 pub mod Lock
 pub mod Listing
 pub mod Schedule
+pub mod Held
+pub mod Standing
+pub mod Print
+pub mod Traced

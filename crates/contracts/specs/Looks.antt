@@ -2,6 +2,7 @@
 -- Assumes nothing.
 use Prim.Native.Nat.{ℕ}
 use mathlib.Core.Bool.{Bool, false}
+use lib.ListN.{getD}
 use Rattle.word.specs.Number.{thread}
 use Rattle.word.specs.declared.flags.Word.{Word}
 use Rattle.word.specs.declared.number.NodeNumber.{NodeNumber}
@@ -22,6 +23,7 @@ use Rattle.state.specs.declared.place.Place.{Place}
 use Rattle.state.specs.declared.place.Place.the-variants as At
 use Rattle.state.specs.declared.view.Stepped.{Stepped}
 use Rattle.state.specs.declared.view.Stepped.the-variants as Steps
+use Rattle.print.specs.declared.line.Line.{Line}
 
 -- ── crate word ──
 
@@ -86,3 +88,9 @@ tailAfter s = nodeAfter s .tail .0
 -- the node that thread 0's next access lies in
 abbrev pub goesTo : Stepped → ℕ
 goesTo s = touchedOf (accessOf (thread 0) (placeAfter s)) (thread 0) .0
+
+-- ── crate print ──
+
+-- the k-th byte of a line
+abbrev pub byteAt : ℕ → Line → ℕ
+byteAt k l = getD (l .bytes) k 0

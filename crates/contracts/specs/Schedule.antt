@@ -236,14 +236,14 @@ next-determined κs c s = determined
 pub next-passes-a-refused-event :
     (κs : Lfts 1)
     → allows-lent next-move.Post κs (cursor writing 1 & slice twice & tt)
-      (moved (cursor writing 2) (Seens.Event 1 (thread 0) (Replies.Refused InsideCall))) → ⊥
+    (moved (cursor writing 2) (Seens.Event 1 (thread 0) (Replies.Refused InsideCall))) → ⊥
 unfolding movedOf eventOf accessOf
 next-passes-a-refused-event κs = apart-by (λ m. m .cursor .at) refl
 
 pub next-stays-at-an-accepted-one :
     (κs : Lfts 1)
     → allows-lent next-move.Post κs (cursor idle 0 & slice begun & tt)
-      (moved (cursor writing 0) (Seens.Event 1 (thread 0) (Replies.Accepted Begun Owners.Nobody))) → ⊥
+    (moved (cursor writing 0) (Seens.Event 1 (thread 0) (Replies.Accepted Begun Owners.Nobody))) → ⊥
 unfolding movedOf eventOf accessOf
 next-stays-at-an-accepted-one κs = apart-by (λ m. m .cursor .at) refl
 
