@@ -8,7 +8,7 @@ use Rattle.word.specs.Number.{thread}
 use Rattle.word.specs.declared.flags.Word.{Word}
 use Rattle.state.specs.Node.{blankNode, filledOf, withCompleted}
 use Rattle.state.specs.View.{at, end, walkFrom, stays, writes, links, parks}
-use Rattle.state.specs.declared.answer.Answer.the-variants.{Done, No, Yes}
+use Rattle.state.specs.declared.answer.Answer.the-variants.{Done, No, Went, Yes}
 use Rattle.state.specs.declared.holding.Holding.the-variants as Holds
 use Rattle.state.specs.declared.place.Place.the-variants as At
 use Rattle.state.specs.declared.place.Walk.the-variants as For
@@ -24,7 +24,7 @@ use Rattle.acquire.proofs.wait.completed_load.Reads as completed-load
 use Rattle.acquire.proofs.wait.park.Reads as park-step
 use Rattle.contracts.specs.Allowed.{Determined, _&_, allows, apart-by, apart-in, clash, determined}
 use Rattle.contracts.specs.Examples.{atNode, failing, seeing, tokened}
-use Rattle.contracts.specs.Looks.{holdingAfter, placeAfter, tokenAfter, wordAfter}
+use Rattle.contracts.specs.Looks.{answerAfter, holdingAfter, placeAfter, tokenAfter, wordAfter}
 
 -- ── try_read, and the first attempt of read ──
 
@@ -71,6 +71,10 @@ try-write-or-granted-beside-a-reader = apart-in holdingAfter (λ e. clash (cc))
 pub try-write-or-contends :
     allows try-write-or.Post (seeing 17 & false & tt) (stays (seeing 17) (at (At.ContendLoad true 0))) → ⊥
 try-write-or-contends = apart-in placeAfter (λ e. clash (cc))
+
+pub try-write-or-refused-with-went :
+    allows try-write-or.Post (seeing 17 & false & tt) (stays (seeing 17) (end Went)) → ⊥
+try-write-or-refused-with-went = apart-in answerAfter (λ e. clash (cc))
 
 pub try-write-or-refused-by-a-queue : allows try-write-or.Post (seeing 18 & false & tt) (stays (seeing 18) (end No)) → ⊥
 try-write-or-refused-by-a-queue = apart-by wordAfter refl
@@ -147,9 +151,10 @@ pub completed-load-parks-though-completed :
     (stays (atNode (withCompleted blankNode) (seeing 0)) (at (At.Park true))) → ⊥
 completed-load-parks-though-completed = apart-in placeAfter (λ e. clash (cc))
 
-pub completed-load-contends-too-soon :
-    allows completed-load.Post (seeing 18 & true & tt) (stays (seeing 18) (at (At.ContendLoad true 0))) → ⊥
-completed-load-contends-too-soon = apart-in placeAfter (λ e. clash (cc))
+pub completed-load-goes-by-the-token :
+    allows completed-load.Post (tokened (seeing 18) & true & tt)
+    (stays (tokened (seeing 18)) (at (At.ContendLoad true 0))) → ⊥
+completed-load-goes-by-the-token = apart-in placeAfter (λ e. clash (cc))
 
 pub park-determined : (v : View) (writer : Bool) → Determined (allows park-step.Post (v & writer & tt))
 park-determined v writer = determined

@@ -7,14 +7,13 @@ use lib.ListN.{getD}
 use Rattle.word.specs.Flags.{word}
 use Rattle.word.specs.Number.{node, none}
 use Rattle.word.specs.declared.number.NodeNumber.{NodeNumber}
-use Rattle.state.specs.Machine.{threadAt}
 use Rattle.state.specs.Node.{blankNode, withNext, withTail}
 use Rattle.state.specs.declared.holding.Holding.the-variants as Holds
 use Rattle.state.specs.declared.machine.Machine.{Machine}
 use Rattle.state.specs.declared.node.Node.{Node}
 use Rattle.state.specs.declared.place.Place.the-variants as At
-use Rattle.listing.specs.Listing.{listed, lost, waitersBy, toTail, toSet}
-use Rattle.listing.specs.ReaderCount.{reportOf, refusedOf, readsBelow}
+use Rattle.listing.specs.Listing.{listed, waitersBy, toTail, toSet}
+use Rattle.listing.specs.ReaderCount.{reportOf, readsBelow}
 use Rattle.listing.specs.declared.listing.Waiters.{Waiters}
 use Rattle.listing.specs.declared.reader_count.Readers.{Readers}
 use Rattle.listing.specs.declared.reader_count.Sits.{Sits}

@@ -72,11 +72,11 @@ pub event-never-moves : allows event.Post (alone & 0 & thread 0 & tt) (accepted 
 unfolding eventOf accessOf
 event-never-moves = apart-in (λ o. threadAt (o .machine) 0 .place) (λ e. clash (cc))
 
-pub event-begins-the-other-call :
-    allows event.Post (alone & 2 & thread 0 & tt)
-    (accepted Begun Owners.Nobody (standing 0 (At.TryReadLoad true) Holds.Nothing)) → ⊥
+pub event-try-write-blocks :
+    allows event.Post (alone & 3 & thread 0 & tt)
+    (accepted Begun Owners.Nobody (standing 0 (At.TryWriteOr true) Holds.Nothing)) → ⊥
 unfolding eventOf accessOf
-event-begins-the-other-call = apart-in (λ o. threadAt (o .machine) 0 .place) (λ e. clash (cc))
+event-try-write-blocks = apart-in (λ o. threadAt (o .machine) 0 .place) (λ e. clash (cc))
 
 pub event-finishes-at-the-first-step :
     allows event.Post (standing 0 (At.TryReadLoad true) Holds.Nothing & 16 & thread 0 & tt)

@@ -12,7 +12,6 @@ use Rattle.word.specs.declared.flags.Word.{Word}
 use Rattle.word.specs.declared.number.Owner.{Owner}
 use Rattle.word.specs.declared.number.Owner.the-variants as Owners
 use Rattle.word.specs.declared.number.ThreadNumber.{ThreadNumber}
-use Rattle.state.specs.View.{at}
 use Rattle.state.specs.declared.answer.Answer.{Answer}
 use Rattle.state.specs.declared.answer.Answer.the-variants.{Begun, Went}
 use Rattle.state.specs.declared.answer.Refusal.the-variants.{InsideCall}
@@ -22,7 +21,7 @@ use Rattle.schedule.specs.declared.cursor.Moved.{Moved}
 use Rattle.schedule.specs.declared.cursor.Seen.the-variants as Seens
 use Rattle.print.specs.Line.{blankOf, putAll, lineOf}
 use Rattle.print.specs.Page.{copyOf}
-use Rattle.print.specs.Text.{ascii, decimalBy, decimal}
+use Rattle.print.specs.Text.{ascii, decimalBy}
 use Rattle.print.specs.declared.line.Line.{Line}
 use Rattle.print.proofs.line.Line.blank.Reads as blank-line
 use Rattle.print.proofs.line.Line.byte.Reads as put-byte

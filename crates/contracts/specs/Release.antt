@@ -86,6 +86,12 @@ pub subtract-keeps-the-read :
     (subtracts (counting 32) (withNext blankNode (word 16)) Holds.Read (end Done)) → ⊥
 subtract-keeps-the-read = apart-in holdingAfter (λ e. clash (cc))
 
+-- the word has QUEUE_LOCKED now, which the subtraction must not look at
+pub subtract-goes-by-the-word :
+    allows subtract-step.Post (atNode (withNext blankNode (word 16)) (reading 23) & word 19 & node 1 & tt)
+    (subtracts (reading 23) (withNext blankNode (word 0)) Holds.Nothing (end Done)) → ⊥
+subtract-goes-by-the-word = apart-in placeAfter (λ e. clash (cc))
+
 pub subtract-below-sixteen :
     allows subtract-step.Post (counting 15 & word 19 & node 1 & tt)
     (subtracts (counting 15) (withNext blankNode (word 0)) Holds.Nothing (at (At.ReleaseCas (word 19)))) → ⊥

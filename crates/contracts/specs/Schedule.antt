@@ -12,7 +12,6 @@ use Rattle.word.specs.Number.{thread}
 use Rattle.word.specs.declared.number.Owner.the-variants as Owners
 use Rattle.state.specs.Access.{accessOf}
 use Rattle.state.specs.Machine.{threadAt}
-use Rattle.state.specs.View.{at}
 use Rattle.state.specs.declared.answer.Answer.the-variants.{Begun}
 use Rattle.state.specs.declared.answer.Refusal.the-variants.{InsideCall}
 use Rattle.state.specs.declared.answer.Reply.the-variants as Replies

@@ -14,9 +14,9 @@ use Rattle.word.specs.declared.number.Owner.the-variants as Owners
 use Rattle.word.specs.declared.number.ThreadNumber.{ThreadNumber}
 use Rattle.state.specs.Access.{accessOf, atWordOf, loadOf, storeOf, touchedOf}
 use Rattle.state.specs.Answer.{answerText}
-use Rattle.state.specs.Machine.{blankThread, madeOf, refusedOf}
+use Rattle.state.specs.Machine.{madeOf, refusedOf}
 use Rattle.state.specs.Node.{blankNode, filledOf, withCompleted, withNext, withPrev, withTail}
-use Rattle.state.specs.View.{at, end, granted, stays, writes, links, subtracts, completes, parks}
+use Rattle.state.specs.View.{at, end, stays, writes, links, subtracts, completes, parks}
 use Rattle.state.specs.declared.access.Access.{Access}
 use Rattle.state.specs.declared.access.Kind.the-variants as Kinds
 use Rattle.state.specs.declared.access.Location.the-variants as Locations

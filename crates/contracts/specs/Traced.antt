@@ -8,14 +8,12 @@ use Rattle.word.specs.Flags.{word}
 use Rattle.word.specs.Number.{node, thread}
 use Rattle.word.specs.declared.number.Owner.the-variants as Owners
 use Rattle.word.specs.declared.number.ThreadNumber.{ThreadNumber}
-use Rattle.state.specs.View.{at}
 use Rattle.state.specs.declared.answer.Answer.the-variants.{Done}
 use Rattle.state.specs.declared.answer.Reply.the-variants as Replies
 use Rattle.state.specs.declared.holding.Holding.the-variants as Holds
 use Rattle.state.specs.declared.machine.Machine.{Machine}
 use Rattle.state.specs.declared.place.Place.the-variants as At
 use Rattle.state.specs.declared.place.Who.the-variants.{Leaver}
-use Rattle.listing.specs.Listing.{toSet, toTail}
 use Rattle.listing.specs.ReaderCount.{readsBelow}
 use Rattle.schedule.specs.declared.cursor.Moved.{Moved}
 use Rattle.schedule.specs.declared.cursor.Seen.the-variants as Seens
