@@ -38,7 +38,7 @@ pub walk-head-determined : (v : View) (walk : Walk) (seen : Word) (tail : NodeNu
     → Determined (allows walk-head.Post (v & walk & seen & tail & tt))
 walk-head-determined v walk seen tail = determined
 
--- the walk's end, the oldest waiter a writer
+-- the tail stored in the head, and on to that place
 abbrev stored : ℕ → Place → Stepped
 stored w p = links (seeing w) (withTail blankNode (node 1)) (at p)
 
