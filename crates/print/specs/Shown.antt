@@ -1,4 +1,5 @@
--- What a line shows: the text that it is made of, where that fits; and that a number's digits are its own. Assumes nothing.
+-- What a line shows: the text that it is made of, where that fits; that a number's digits are its own; and that
+-- document 01's lines fit, with their ends. Assumes nothing.
 use Prim.Native.Nat.{ℕ, zero, suc, _+_, _-_, _*_, _/_, _%_, _^_, _≤_, _<_}
 use mathlib.Core.Path.{_≡_, refl, sym, ap, _∙_}
 use mathlib.Core.List.{List, [], _∷_, _++_, append-nil}
@@ -13,13 +14,17 @@ use Rattle.word.specs.declared.flags.Word.{Word}
 use Rattle.word.specs.declared.number.ThreadNumber.{ThreadNumber}
 use Rattle.word.specs.declared.number.Owner.{Owner}
 use Rattle.word.specs.declared.number.Owner.the-variants.{Nobody, Thread}
-use Rattle.state.specs.Answer.{answerWord}
+use Rattle.state.specs.Answer.{answerWord, refusalNumber}
 use Rattle.state.specs.declared.answer.Answer.{Answer}
 use Rattle.state.specs.declared.answer.Answer.the-variants.{Begun, Went, Done, Yes, No}
+use Rattle.schedule.specs.File.{fileNumber}
+use Rattle.schedule.specs.declared.whole.FileStop.{FileStop}
+use Rattle.schedule.specs.declared.whole.FileStop.the-variants as Stop
 use Rattle.print.specs.Text.{ascii, decimalBy, decimal}
 use Rattle.print.specs.Line.{lineWidth, putOf, putAll, shown, lineOf}
 use Rattle.print.specs.Laws.{digits-none, digits-one, digits-more}
-use Rattle.print.specs.Replayed.{wokenText, eventText}
+use Rattle.print.specs.Replayed.{wokenText, eventText, refusedText}
+use Rattle.print.specs.Whole.{stopText}
 use Rattle.print.specs.declared.line.Line.{Line}
 
 -- ── a line's text ──
@@ -86,7 +91,7 @@ decimal-value n h = digits-value 20 n (omega (arith, h))
 
 -- ── document 01's line fits ──
 
-digits-few : (places n : ℕ) → length (decimalBy places n) ≤ places
+pub digits-few : (places n : ℕ) → length (decimalBy places n) ≤ places
 digits-few zero n = omega (arith, ap length (sym (digits-none 0 n refl)))
 digits-few (suc places) n = by (decLt n 10) (digits-few places (n / 10))
   where
@@ -109,14 +114,32 @@ woken-short : (w : Owner) → length (wokenText w) ≤ 20
 woken-short Nobody = omega arith
 woken-short (Thread t) = digits-few 20 (t .0)
 
+-- a digit is one
+pub digit-one : (n : ℕ) → n < 10 → length (decimal n) ≡ 1
+digit-one n h = ap length (sym (digits-one 20 n (omega arith) h))
+
 -- a text, a space and a text
 spaced : (xs ys : List ℕ) (a b : ℕ) → length xs ≤ a → length ys ≤ b → length (xs ++ ascii " " ++ ys) ≤ a + 1 + b
 spaced xs ys a b h k = omega (arith, h, k, length-append (xs ++ ascii " ") ys, length-append xs (ascii " "))
 
-pub event-text-fits : (at : ℕ) (thread : ThreadNumber) (answer : Answer) (woken : Owner) (word : Word) → length (eventText at thread answer woken word) ≤ lineWidth
-event-text-fits at thread answer woken word =
-    let threaded = spaced (decimal at) (decimal (thread .0)) 20 20 (digits-few 20 at) (digits-few 20 (thread .0)) in
-    let answered = spaced (decimal at ++ ascii " " ++ decimal (thread .0)) (answerWord answer) 41 5 threaded (answer-short answer) in
-    let woke = spaced (decimal at ++ ascii " " ++ decimal (thread .0) ++ ascii " " ++ answerWord answer) (wokenText woken) 47 20 answered (woken-short woken) in
-    let all = spaced (decimal at ++ ascii " " ++ decimal (thread .0) ++ ascii " " ++ answerWord answer ++ ascii " " ++ wokenText woken) (decimal (word .0)) 68 20 woke (digits-few 20 (word .0)) in
-    omega (arith, all)
+module _ (at : ℕ) (thread : ThreadNumber) (answer : Answer) (woken : Owner) (word : Word) where
+  pub event-text-short : length (eventText at thread answer woken word) ≤ 89
+  event-text-short =
+      let threaded = decimal at ++ ascii " " ++ decimal (thread .0) in
+      let answered = threaded ++ ascii " " ++ answerWord answer in
+      let woke = answered ++ ascii " " ++ wokenText woken in
+      let a = spaced (decimal at) (decimal (thread .0)) 20 20 (digits-few 20 at) (digits-few 20 (thread .0)) in
+      let b = spaced threaded (answerWord answer) 41 5 a (answer-short answer) in
+      let c = spaced answered (wokenText woken) 47 20 b (woken-short woken) in
+      spaced woke (decimal (word .0)) 68 20 c (digits-few 20 (word .0))
+
+  pub event-text-fits : length (eventText at thread answer woken word) ≤ lineWidth
+  event-text-fits = omega (arith, event-text-short)
+
+pub refused-text-short : (number : ℕ) → length (refusedText number) ≤ 28
+refused-text-short number = omega (arith, digits-few 20 number, length-append (ascii "refused ") (decimal number))
+
+pub stop-text-short : (run : ℕ) (stop : FileStop) → length (stopText run stop) ≤ 28
+stop-text-short run Stop.Ran = omega (arith, digits-few 20 run, length-append (ascii "end ") (decimal run))
+stop-text-short run (Stop.Refused refusal) = refused-text-short (refusalNumber refusal)
+stop-text-short run (Stop.File refusal) = refused-text-short (fileNumber refusal)
