@@ -21,7 +21,7 @@ use Rattle.schedule.specs.File.{fileNumber}
 use Rattle.schedule.specs.declared.whole.FileStop.{FileStop}
 use Rattle.schedule.specs.declared.whole.FileStop.the-variants as Stop
 use Rattle.print.specs.Text.{ascii, decimalBy, decimal}
-use Rattle.print.specs.Line.{lineWidth, putOf, putAll, shown, lineOf}
+use Rattle.print.specs.Line.{lineWidth, blankOf, putOf, putAll, shown, lineOf}
 use Rattle.print.specs.Laws.{digits-none, digits-one, digits-more}
 use Rattle.print.specs.Replayed.{wokenText, eventText, refusedText}
 use Rattle.print.specs.Whole.{stopText}
@@ -53,6 +53,25 @@ shown-text (x ∷ xs) l w h =
 -- a line of a text shows that text
 pub line-shows : (xs : List ℕ) → length xs ≤ lineWidth → shown (lineOf xs) ≡ xs
 line-shows xs h = shown-text xs _ refl (omega (arith, h))
+
+-- so many bytes more, in as many as before
+put-holds :
+  (xs : List ℕ) (l : Line) → length (l .bytes) ≡ lineWidth → l .length + length xs ≤ lineWidth
+  → (putAll l xs .length ≡ l .length + length xs) × (length (putAll l xs .bytes) ≡ lineWidth)
+unfolding putAll
+put-holds [] l w h = (omega arith, w)
+put-holds (x ∷ xs) l w h =
+    let next = put-fits l x (omega (arith, h)) in
+    let wide : length (putOf l x .bytes) ≡ lineWidth = ap (λ (k : Line). length (k .bytes)) next ∙ length-set (l .bytes) (l .length) x ∙ w in
+    let long : putOf l x .length ≡ l .length + 1 = ap (λ (k : Line). k .length) next in
+    let rest = put-holds xs (putOf l x) wide (omega (arith, h, long)) in
+    (omega (arith, rest .0, long), rest .1)
+
+-- a line of a text has its length, in bytes of a line
+pub line-holds : (xs : List ℕ) → length xs ≤ lineWidth → (lineOf xs .length ≡ length xs) × (length (lineOf xs .bytes) ≡ lineWidth)
+line-holds xs h =
+    let held = put-holds xs blankOf refl (omega (arith, h)) in
+    (omega (arith, held .0), held .1)
 
 -- ── a number's digits ──
 

@@ -1,9 +1,9 @@
--- Laws of the lines of a run of events, for any line of an event.
--- In order: one event at any position, and the end; as far as the replay runs; two that tell the same run.
--- Not here: what is said of a file's lines (Statements.antt); their bytes on pages (PageLaws.antt).
+-- Laws of lines' bytes, and of the lines of a run of events, for any line of an event.
+-- In order: bytes; one event at any position, and the end; as far as the replay runs; two that tell the same run.
+-- Not here: what is said of a file's lines (Statements.antt); lines laid on a page (PageLaws.antt).
 -- Assumes nothing.
 use Prim.Native.Nat.{ℕ, zero, suc, _+_, _*_, _/_, _<_, _≤_}
-use mathlib.Core.List.{List, [], _∷_, _++_}
+use mathlib.Core.List.{List, [], _∷_, _++_, append-assoc, append-nil}
 use mathlib.Core.Path.{_≡_, refl, sym, ap, _∙_}
 use native.Mathlib.Decide.{decLt}
 use native.Mathlib.Omega.{arith}
@@ -18,8 +18,22 @@ use Rattle.schedule.specs.Statements.{stateAt, Accepts, End, none-left, refused
 use Rattle.schedule.specs.Theorems.{run-is-longest, run-is-the-end}
 use Rattle.schedule.specs.declared.replay.Replayed.{Replayed}
 use Rattle.schedule.specs.declared.whole.FileStop.the-variants as Stop
-use Rattle.print.specs.Whole.{stopText, EventLine, linesBy, eventLines}
+use Rattle.print.specs.Text.{ascii}
+use Rattle.print.specs.Whole.{stopText, EventLine, linesBy, eventLines, bytesOf}
 use Rattle.print.specs.Statements.{TellsEvent, TellsRun}
+
+-- ── bytes ──
+
+pub bytes-append : (xs ys : List (List ℕ)) → bytesOf (xs ++ ys) ≡ bytesOf xs ++ bytesOf ys
+unfolding bytesOf
+bytes-append [] ys = refl
+bytes-append (x ∷ xs) ys =
+    ap (λ (l : List ℕ). x ++ ascii "\n" ++ l) (bytes-append xs ys)
+    ∙ sym (append-assoc (x ++ ascii "\n") (bytesOf xs) (bytesOf ys))
+
+pub bytes-one : (x : List ℕ) → bytesOf (x ∷ []) ≡ x ++ ascii "\n"
+unfolding bytesOf
+bytes-one x = append-nil (x ++ ascii "\n")
 
 -- ── one event ──
 
