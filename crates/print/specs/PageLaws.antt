@@ -37,8 +37,8 @@ copy-length page at bytes zero = refl
 copy-length page at bytes (suc n) = length-set (copyOf page at bytes n) (at + n) (getD bytes n 0) ∙ copy-length page at bytes n
 
 pub copy-shows :
-  (page : List ℕ) (at : ℕ) (bytes : List ℕ) (n : ℕ) → at + n ≤ length page → n ≤ length bytes
-  → take (at + n) (copyOf page at bytes n) ≡ take at page ++ take n bytes
+    (page : List ℕ) (at : ℕ) (bytes : List ℕ) (n : ℕ) → at + n ≤ length page → n ≤ length bytes
+    → take (at + n) (copyOf page at bytes n) ≡ take at page ++ take n bytes
 unfolding copyOf
 copy-shows page at bytes zero h k =
     let e : at + 0 ≡ at = omega arith in

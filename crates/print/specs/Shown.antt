@@ -56,8 +56,8 @@ line-shows xs h = shown-text xs _ refl (omega (arith, h))
 
 -- so many bytes more, in as many as before
 put-holds :
-  (xs : List ℕ) (l : Line) → length (l .bytes) ≡ lineWidth → l .length + length xs ≤ lineWidth
-  → (putAll l xs .length ≡ l .length + length xs) × (length (putAll l xs .bytes) ≡ lineWidth)
+    (xs : List ℕ) (l : Line) → length (l .bytes) ≡ lineWidth → l .length + length xs ≤ lineWidth
+    → (putAll l xs .length ≡ l .length + length xs) × (length (putAll l xs .bytes) ≡ lineWidth)
 unfolding putAll
 put-holds [] l w h = (omega arith, w)
 put-holds (x ∷ xs) l w h =

@@ -1,5 +1,6 @@
 -- Laws of lines' bytes, and of the lines of a run of events, for any line of an event.
--- In order: bytes; one event at any position, and the end; as far as the replay runs; two that tell the same run.
+-- In order: bytes; one event at any position, and the end; as far as the replay runs; two that tell the same run; how
+-- many bytes at the most.
 -- Not here: what is said of a file's lines (Statements.antt); lines laid on a page (PageLaws.antt).
 -- Assumes nothing.
 use Prim.Native.Nat.{ℕ, zero, suc, _+_, _*_, _/_, _<_, _≤_}
@@ -7,9 +8,15 @@ use mathlib.Core.List.{List, [], _∷_, _++_, append-assoc, append-nil}
 use mathlib.Core.Path.{_≡_, refl, sym, ap, _∙_}
 use native.Mathlib.Decide.{decLt}
 use native.Mathlib.Omega.{arith}
-use lib.ListN.{length, drop, getD, length-drop, List·getD-append}
+use lib.ListN.{length, drop, getD, length-append, length-drop, List·getD-append}
 use Rattle.state.specs.declared.machine.Machine.{Machine}
+use Rattle.word.specs.Number.{thread}
+use Rattle.word.specs.declared.number.Owner.{Owner}
+use Rattle.word.specs.declared.number.ThreadNumber.{ThreadNumber}
+use Rattle.state.specs.declared.answer.Answer.{Answer}
 use Rattle.state.specs.declared.answer.Reply.{Reply}
+use Rattle.state.specs.declared.answer.Reply.the-variants.{Accepted, Refused}
+use Rattle.lock.specs.Event.{eventOf}
 use Rattle.schedule.specs.File.{eventWidth}
 use Rattle.schedule.specs.Replay.{threadAt, eventAt, replayOf}
 use Rattle.schedule.specs.ReplayLaws.{drop-event}
@@ -17,8 +24,11 @@ use Rattle.schedule.specs.Whole.{fileStopOf}
 use Rattle.schedule.specs.Statements.{stateAt, Accepts, End, none-left, refused}
 use Rattle.schedule.specs.Theorems.{run-is-longest, run-is-the-end}
 use Rattle.schedule.specs.declared.replay.Replayed.{Replayed}
+use Rattle.schedule.specs.declared.whole.FileStop.{FileStop}
 use Rattle.schedule.specs.declared.whole.FileStop.the-variants as Stop
 use Rattle.print.specs.Text.{ascii}
+use Rattle.print.specs.Line.{lineWidth}
+use Rattle.print.specs.Shown.{stop-text-short}
 use Rattle.print.specs.Whole.{stopText, EventLine, linesBy, eventLines, bytesOf}
 use Rattle.print.specs.Statements.{TellsEvent, TellsRun}
 
@@ -30,10 +40,6 @@ bytes-append [] ys = refl
 bytes-append (x ∷ xs) ys =
     ap (λ (l : List ℕ). x ++ ascii "\n" ++ l) (bytes-append xs ys)
     ∙ sym (append-assoc (x ++ ascii "\n") (bytesOf xs) (bytesOf ys))
-
-pub bytes-one : (x : List ℕ) → bytesOf (x ∷ []) ≡ x ++ ascii "\n"
-unfolding bytesOf
-bytes-one x = append-nil (x ++ ascii "\n")
 
 -- ── one event ──
 
@@ -155,3 +161,43 @@ module _ (line : EventLine) (m : Machine) (s : List ℕ) where
         by : Dec (k < run) → getD xs k [] ≡ getD ys k []
         by (yes l) = same-event k (a .events k l) (b .events k l)
         by (no l) = let e : k ≡ run = omega arith in rw e (a .stop ∙ sym (b .stop))
+
+-- ── how many bytes ──
+
+-- a line and those after it
+one-line :
+    (x : List ℕ) (more : List (List ℕ)) (n : ℕ) → length x < lineWidth → length (bytesOf more) ≤ n
+    → length (bytesOf (x ∷ more)) ≤ lineWidth + n
+unfolding bytesOf
+one-line x more n h k =
+    omega (arith, length-append (x ++ ascii "\n") (bytesOf more), length-append x (ascii "\n"))
+
+stop-line : (at : ℕ) (stop : FileStop) (n : ℕ) → length (bytesOf (stopText at stop ∷ [])) ≤ lineWidth + n
+unfolding bytesOf
+stop-line at stop n = one-line (stopText at stop) [] n (omega (arith, stop-text-short at stop)) (omega arith)
+
+-- where an event's line fits with its end
+module _
+    (line : EventLine)
+    (short : (at : ℕ) (t : ThreadNumber) (a : Answer) (w : Owner) (m : Machine) → length (line at t a w m) < lineWidth)
+  where
+    by-reply :
+        (at : ℕ) (t : ThreadNumber) (r : Reply) (m : Machine) (later : List (List ℕ)) (n : ℕ)
+        → length (bytesOf later) ≤ n
+        → length (bytesOf (linesBy line at t r m later)) ≤ lineWidth + n
+    by-reply at t (Accepted answer woken) m later n h = one-line (line at t answer woken m) later n (short at t answer woken m) h
+    by-reply at t (Refused refusal) m later n h = stop-line at (Stop.Refused refusal) n
+
+    -- at most a line's width for each event, and one more
+    pub bytes-most :
+        (at : ℕ) (m : Machine) (s : List ℕ)
+        → length (bytesOf (eventLines line at m s)) ≤ lineWidth * (length s / eventWidth + 1)
+    unfolding eventLines
+    bytes-most at m [] = omega (arith, stop-line at Stop.Ran 0)
+    bytes-most at m (odd ∷ []) = omega (arith, stop-line at Stop.Ran 0)
+    bytes-most at m (code ∷ t ∷ s) =
+        let o = eventOf m code (thread t) in
+        let later = eventLines line (at + 1) (o .machine) s in
+        let n = lineWidth * (length s / eventWidth + 1) in
+        let rest = bytes-most (at + 1) (o .machine) s in
+        omega (arith, by-reply at (thread t) (o .reply) (o .machine) later n rest)
