@@ -2,18 +2,17 @@
 -- In order: a line laid; what is kept; at the start; one move more, by whether the replay goes on; no room left.
 -- Not here: what a page is in the end (Pages.antt, `Fills`); the law of one move (Moves.antt).
 -- Assumes nothing.
-use Prim.Native.Nat.{ℕ, _+_, _-_, _/_, _<_, _≤_}
+use Prim.Native.Nat.{ℕ, _+_, _-_, _<_, _≤_}
 use mathlib.Core.Bool.{Bool, true, false, false≢true}
-use mathlib.Core.List.{List, [], _++_, append-assoc}
+use mathlib.Core.List.{List, _++_, append-assoc}
 use mathlib.Core.Path.{_≡_, refl, sym, ap, subst, _∙_}
 use native.Mathlib.Decide.{decLt}
 use native.Mathlib.Omega.{arith}
 use borrow.Author.Tests.{leb-true, le-leb}
 use lib.Dec.{leb}
 use lib.ListN.{length, take}
-use Rattle.word.specs.Base.{pick}
 use Rattle.word.specs.Cases.{pick-first}
-use Rattle.schedule.specs.File.{eventWidth}
+use Rattle.schedule.specs.Cursor.{movedOf}
 use Rattle.schedule.specs.declared.cursor.Cursor.{Cursor}
 use Rattle.schedule.specs.declared.cursor.Moved.{Moved}
 use Rattle.schedule.specs.declared.whole.FileStop.{FileStop}
@@ -24,10 +23,9 @@ use Rattle.print.specs.PageLaws.{laid-length, laid-after, laid-shows}
 use Rattle.print.specs.declared.line.Line.{Line}
 use Rattle.console.specs.Output.{hasRoom, endedOf}
 use Rattle.console.specs.Pages.{moveText, goingOf, toPrint, toRun, printBy, runBy, Further, Fills}
-use Rattle.console.specs.Moves.{Moves, move-short}
+use Rattle.console.specs.Moves.{Moves, moves, move-short}
 use Rattle.console.specs.declared.pages.Going.{Going}
 use Rattle.console.specs.declared.pages.Going.the-variants.{On, Over}
-use Rattle.console.specs.declared.pages.Filled.{Filled}
 
 -- ── a line laid ──
 
@@ -78,17 +76,6 @@ no-room size at e h = by (decLt 0 at)
         let rest = le-leb lineWidth (size - at) (omega arith) in
         absurd (false≢true (sym e ∙ simp (start, rest)))
 
--- the line of a move, where there is room
-pub lays-move :
-    {page : List ℕ} {at : ℕ} {later : List ℕ} {next : ℕ} {line : Line} (traced : Bool) (k : ℕ) (moved : Moved)
-    → hasRoom (length page) at ≡ true
-    → line ≡ lineOf (moveText traced k moved)
-    → next ≡ afterOf (length page) at (endedOf line)
-    → later ≡ laidOf page at (endedOf line)
-    → Lays page at (moveText traced k moved) later next
-lays-move {page} {at} traced k moved room e p q =
-    lays (has-room (length page) at room) (move-short traced k moved) e p q
-
 -- ── what the loop keeps ──
 
 pub record Filling (traced : Bool) (from : Cursor) (s first page : List ℕ) (c : Cursor) (at : ℕ) : Type 0 where
@@ -110,49 +97,72 @@ filling-start traced from s page =
       further = λ some. absurd (omega (arith, some));
     }
 
+-- one move more: the line of it is laid where there is room
 module _
     {traced : Bool} {from : Cursor} {s first page : List ℕ} {c : Cursor} {at : ℕ}
-    {moved : Moved} {later : List ℕ} {next : ℕ}
+    {moved : Moved} {line : Line} {later : List ℕ} {next : ℕ}
     (kept : Filling traced from s first page c at)
-    (laid : Lays page at (moveText traced (c .at) moved) later next)
-    (move : Moves traced c s moved)
+    (room : hasRoom (length page) at ≡ true)
+    (m : moved ≡ movedOf c s)
+    (e : line ≡ lineOf (moveText traced (c .at) moved))
+    (p : next ≡ afterOf (length page) at (endedOf line))
+    (q : later ≡ laidOf page at (endedOf line))
   where
     abbrev text : List ℕ
     text = moveText traced (c .at) moved
 
-    bytes : take next later ++ printBy traced (goingOf (moved .seen)) (moved .cursor) s ≡ toPrint traced from s
-    bytes =
+    laid : Lays page at text later next
+    laid = lays (has-room (length page) at room) (move-short traced (c .at) moved) e p q
+
+    move : Moves traced c s moved
+    move = moves c s traced m
+
+    -- less of the page is free
+    pub fills-up : length later - next < length page - at
+    fills-up = omega (arith, laid .after, laid .size, laid .within)
+
+    abbrev Left : Going → Type 0
+    Left g = take next later ++ printBy traced g (moved .cursor) s ≡ toPrint traced from s
+
+    abbrev Runs : Going → Type 0
+    Runs g = runBy g (moved .cursor) s ≡ toRun from s
+
+    left : Left (goingOf (moved .seen))
+    left =
         let rest = printBy traced (goingOf (moved .seen)) (moved .cursor) s in
         ap (λ (l : List ℕ). l ++ rest) (laid .shows)
         ∙ append-assoc (take at page) (text ++ ascii "\n") rest
         ∙ ap (λ (l : List ℕ). take at page ++ l) (sym (move .prints))
         ∙ kept .bytes
 
-    replay : runBy (goingOf (moved .seen)) (moved .cursor) s ≡ toRun from s
-    replay = sym (move .runs) ∙ kept .replay
+    runs : Runs (goingOf (moved .seen))
+    runs = sym (move .runs) ∙ kept .replay
 
-    module _ (going : Going) (e : going ≡ goingOf (moved .seen)) where
+    module _ {going : Going} (g : going ≡ goingOf (moved .seen)) where
       -- the replay goes on
       pub goes-on : going ≡ On → Filling traced from s first later (moved .cursor) next
       goes-on on =
-          let further : Further On c (moved .cursor) s = subst (λ (g : Going). Further g c (moved .cursor) s) (sym e ∙ on) (move .further) in
+          let way = sym g ∙ on in
+          let further = subst (λ (x : Going). Further x c (moved .cursor) s) way (move .further) in
           record {
             size = laid .size ∙ kept .size;
             within = laid .within;
-            bytes = subst (λ (g : Going). take next later ++ printBy traced g (moved .cursor) s ≡ toPrint traced from s) (sym e ∙ on) bytes;
-            replay = subst (λ (g : Going). runBy g (moved .cursor) s ≡ toRun from s) (sym e ∙ on) replay;
+            bytes = subst Left way left;
+            replay = subst Runs way runs;
             ahead = omega (arith, kept .ahead, further .0);
             further = λ _. (omega (arith, kept .ahead, further .0), further .1);
           }
 
       -- it is over
-      pub is-over : (stop : FileStop) → going ≡ Over stop → Fills traced from s later (record { cursor = moved .cursor; at = next; going = going })
+      pub is-over :
+          (stop : FileStop) → going ≡ Over stop
+          → Fills traced from s later (record { cursor = moved .cursor; at = next; going = going })
       is-over stop over =
           record {
             within = laid .within;
-            bytes = subst (λ (g : Going). take next later ++ printBy traced g (moved .cursor) s ≡ toPrint traced from s) (sym e) bytes;
-            replay = subst (λ (g : Going). runBy g (moved .cursor) s ≡ toRun from s) (sym e) replay;
-            further = subst (λ (g : Going). Further g from (moved .cursor) s) (sym over) tt;
+            bytes = subst Left (sym g) left;
+            replay = subst Runs (sym g) runs;
+            further = subst (λ (x : Going). Further x from (moved .cursor) s) (sym over) tt;
           }
 
 -- no line surely fits any more

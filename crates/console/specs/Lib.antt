@@ -3,4 +3,7 @@ pub mod Pages
 pub mod Moves
 pub mod Filling
 pub mod Runs
+pub mod Written
+pub mod Paging
+pub mod ThreadLines
 pub mod Printing

@@ -2,13 +2,13 @@
 -- In order: no event is left; by the reply; any move; that every line fits.
 -- Not here: a move by itself (crate schedule, CursorLaws.antt); one event's lines (crate print, WholeLaws.antt).
 -- Assumes nothing.
-use Prim.Native.Nat.{ℕ, _+_, _*_, _/_, _<_, _≤_}
+use Prim.Native.Nat.{ℕ, _+_, _/_, _<_, _≤_}
 use mathlib.Core.Bool.{Bool, true, false}
-use mathlib.Core.List.{List, [], _∷_, _++_}
-use mathlib.Core.Path.{_≡_, refl, sym, ap, _∙_}
+use mathlib.Core.List.{List, [], _++_}
+use mathlib.Core.Path.{_≡_, refl, ap, _∙_}
 use native.Mathlib.Decide.{decLt}
 use native.Mathlib.Omega.{arith}
-use lib.ListN.{length, drop}
+use lib.ListN.{length}
 use Rattle.word.specs.declared.number.Owner.{Owner}
 use Rattle.state.specs.declared.answer.Answer.{Answer}
 use Rattle.state.specs.declared.answer.Refusal.{Refusal}
@@ -72,7 +72,10 @@ module _ (c : Cursor) (s : List ℕ) where
     abbrev on : Cursor
     on = record { machine = o .machine; at = c .at + 1 }
 
-    told : (traced : Bool) → toPrint traced c s ≡ bytesOf (linesOn (lineFor traced) (c .machine) s (c .at) (o .reply))
+    abbrev bytesBy : Bool → Reply → List ℕ
+    bytesBy traced reply = bytesOf (linesOn (lineFor traced) (c .machine) s (c .at) reply)
+
+    told : (traced : Bool) → toPrint traced c s ≡ bytesBy traced (o .reply)
     told traced = ap bytesOf (lines-on (lineFor traced) (c .machine) s (c .at) h)
 
     module _ (refusal : Refusal) (r : o .reply ≡ Refused refusal) where
@@ -80,8 +83,8 @@ module _ (c : Cursor) (s : List ℕ) where
           (traced : Bool)
           → toPrint traced c s ≡ moveText traced (c .at) (movedTo c (seen (Refused refusal))) ++ ascii "\n" ++ []
       unfolding bytesOf
-      refused-prints true = told true ∙ ap (λ (x : Reply). bytesOf (linesOn (lineFor true) (c .machine) s (c .at) x)) r
-      refused-prints false = told false ∙ ap (λ (x : Reply). bytesOf (linesOn (lineFor false) (c .machine) s (c .at) x)) r
+      refused-prints true = told true ∙ ap (bytesBy true) r
+      refused-prints false = told false ∙ ap (bytesBy false) r
 
       refused : (traced : Bool) → Moves traced c s (movedOf c s)
       refused traced =
@@ -95,8 +98,8 @@ module _ (c : Cursor) (s : List ℕ) where
           → toPrint traced c s
           ≡ moveText traced (c .at) (movedTo on (seen (Accepted answer woken))) ++ ascii "\n" ++ toPrint traced on s
       unfolding bytesOf
-      accepted-prints true = told true ∙ ap (λ (x : Reply). bytesOf (linesOn (lineFor true) (c .machine) s (c .at) x)) r
-      accepted-prints false = told false ∙ ap (λ (x : Reply). bytesOf (linesOn (lineFor false) (c .machine) s (c .at) x)) r
+      accepted-prints true = told true ∙ ap (bytesBy true) r
+      accepted-prints false = told false ∙ ap (bytesBy false) r
 
       accepted : (traced : Bool) → Moves traced c s (movedOf c s)
       accepted traced =

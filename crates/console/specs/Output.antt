@@ -13,6 +13,10 @@ use Rattle.print.specs.declared.line.Line.{Line}
 abbrev pub hasRoom : ℕ → ℕ → Bool
 hasRoom size at = pick (leb at size) (leb lineWidth (size - at)) false
 
+-- the pages that lines are laid on
+abbrev pub pageSize : ℕ
+pageSize = 65536
+
 -- a line and its end
 abbrev pub endedOf : Line → Line
 endedOf line = putAll line (ascii "\n")

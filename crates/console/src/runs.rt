@@ -1,11 +1,13 @@
 // A schedule file's replay or trace on standard output, a page at a time.
 ghost use mathlib.Core.Path.{_≡_};
-ghost use Prim.Native.Nat.{_≤_};
+ghost use Prim.Native.Nat.{_*_, _≤_};
 ghost use lib.ListN.{length, take};
 ghost use Rattle.schedule.specs.declared.file.FileRefusal.the-variants.{TooMany};
+ghost use Rattle.schedule.specs.File.{eventWidth, eventLimit};
 ghost use Rattle.schedule.specs.Whole.{fileReplayOf};
 ghost use Rattle.print.specs.Whole.{bytesOf, printBytes};
 ghost use Rattle.traced.specs.Whole.{threadLines, traceBytes};
+ghost use Rattle.console.specs.Output.{pageSize};
 ghost use Rattle.console.specs.Runs.{printedOf, refusedPrinted, receivedBytes};
 ghost use Rattle.console.specs.Runs.{endLines, ranPrinted, filePrinted};
 use crate::input::Reading;
@@ -34,7 +36,7 @@ pub struct Printed {
 
 // A line for each thread.
 fn threads(m: Machine, page: &mut [u8]) -> usize
-    requires { ⌜ length (now page) ≡ 65536 ⌝ }
+    requires { ⌜ length (now page) ≡ pageSize ⌝ }
     ensures { λ r. ⌜ r ≤ length (now (page .exit)) ⌝ }
     ensures { λ r. ⌜ take r (now (page .exit)) ≡ bytesOf (threadLines (m .count) m) ⌝ }
 {
@@ -49,9 +51,9 @@ fn threads(m: Machine, page: &mut [u8]) -> usize
 
 // The trace's last lines, and how many bytes they are.
 fn last(traced: bool, m: Machine, page: &mut [u8]) -> usize
-    requires { ⌜ length (now page) ≡ 65536 ⌝ }
+    requires { ⌜ length (now page) ≡ pageSize ⌝ }
     ensures { λ r. ⌜ r ≡ length (bytesOf (endLines traced m)) ⌝ }
-    ensures { λ r. ⌜ r ≤ 65536 ⌝ }
+    ensures { λ r. ⌜ r ≤ pageSize ⌝ }
 {
     if traced {
         let at = threads(m, page);
@@ -62,7 +64,7 @@ fn last(traced: bool, m: Machine, page: &mut [u8]) -> usize
 
 // Page after page, until the replay is over.
 fn run(traced: bool, first: Machine, s: &[u8], page: &mut [u8]) -> Printed
-    requires { ⌜ (length (now page) ≡ 65536) × (length (now s) ≤ 60000) ⌝ }
+    requires { ⌜ (length (now page) ≡ pageSize) × (length (now s) ≤ eventWidth * eventLimit) ⌝ }
     ensures { λ r. ⌜ r ≡ ranPrinted traced first (now (s .entry)) ⌝ }
 {
     let mut cursor = Cursor::start(first);

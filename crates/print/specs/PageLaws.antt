@@ -25,7 +25,9 @@ pub copy-none : (page : List ℕ) (at : ℕ) (bytes : List ℕ) → page ≡ cop
 unfolding copyOf
 copy-none page at bytes = refl
 
-pub copy-more : (page : List ℕ) (at : ℕ) (bytes : List ℕ) (n : ℕ) → set (copyOf page at bytes n) (at + n) (getD bytes n 0) ≡ copyOf page at bytes (n + 1)
+pub copy-more :
+    (page : List ℕ) (at : ℕ) (bytes : List ℕ) (n : ℕ)
+    → set (copyOf page at bytes n) (at + n) (getD bytes n 0) ≡ copyOf page at bytes (n + 1)
 unfolding copyOf
 copy-more page at bytes n =
     let e : suc n ≡ n + 1 = omega arith in
@@ -34,7 +36,8 @@ copy-more page at bytes n =
 pub copy-length : (page : List ℕ) (at : ℕ) (bytes : List ℕ) (n : ℕ) → length (copyOf page at bytes n) ≡ length page
 unfolding copyOf
 copy-length page at bytes zero = refl
-copy-length page at bytes (suc n) = length-set (copyOf page at bytes n) (at + n) (getD bytes n 0) ∙ copy-length page at bytes n
+copy-length page at bytes (suc n) =
+    length-set (copyOf page at bytes n) (at + n) (getD bytes n 0) ∙ copy-length page at bytes n
 
 pub copy-shows :
     (page : List ℕ) (at : ℕ) (bytes : List ℕ) (n : ℕ) → at + n ≤ length page → n ≤ length bytes
@@ -55,7 +58,8 @@ copy-shows page at bytes (suc n) h k =
 
 pub fits-room : (size at text : ℕ) → fitsOf size at text ≡ true → (text ≤ lineWidth) × (at + text ≤ size)
 fits-room size at text e =
-    let narrow = pick-first (leb text lineWidth) (pick (leb at size) (leb text (size - at)) false) false true false≢true e in
+    let inside = pick (leb at size) (leb text (size - at)) false in
+    let narrow = pick-first (leb text lineWidth) inside false true false≢true e in
     let start = pick-first (leb at size) (leb text (size - at)) false true false≢true (narrow .1) in
     let low = leb-true at size (start .0) in
     let room = leb-true text (size - at) (start .1) in
@@ -71,38 +75,47 @@ laid-length page at l =
     (λ _. refl)
 
 -- a text and its end, where any line fits
-module _ (page : List ℕ) (at : ℕ) (xs : List ℕ) (room : at + lineWidth ≤ length page) (short : length xs < lineWidth) where
-  abbrev ended : Line
-  ended = putAll (lineOf xs) (ascii "\n")
+module _
+    (page : List ℕ) (at : ℕ) (xs : List ℕ)
+    (room : at + lineWidth ≤ length page)
+    (short : length xs < lineWidth)
+  where
+    abbrev ended : Line
+    ended = putAll (lineOf xs) (ascii "\n")
 
-  text : ended ≡ lineOf (xs ++ ascii "\n")
-  text = put-both blankOf xs (ascii "\n")
+    text : ended ≡ lineOf (xs ++ ascii "\n")
+    text = put-both blankOf xs (ascii "\n")
 
-  size : length (xs ++ ascii "\n") ≡ length xs + 1
-  size = length-append xs (ascii "\n")
+    size : length (xs ++ ascii "\n") ≡ length xs + 1
+    size = length-append xs (ascii "\n")
 
-  holds : (lineOf (xs ++ ascii "\n") .length ≡ length xs + 1) × (length (lineOf (xs ++ ascii "\n") .bytes) ≡ lineWidth)
-  holds = let h = line-holds (xs ++ ascii "\n") (omega (arith, size)) in (h .0 ∙ size, h .1)
+    abbrev whole : Line
+    whole = lineOf (xs ++ ascii "\n")
 
-  pub ended-length : ended .length ≡ length xs + 1
-  ended-length = ap (λ (l : Line). l .length) text ∙ holds .0
+    holds : (whole .length ≡ length xs + 1) × (length (whole .bytes) ≡ lineWidth)
+    holds = let h = line-holds (xs ++ ascii "\n") (omega (arith, size)) in (h .0 ∙ size, h .1)
 
-  fits : fitsOf (length page) at (ended .length) ≡ true
-  fits =
-      let narrow = le-leb (ended .length) lineWidth (omega (arith, ended-length)) in
-      let start = le-leb at (length page) (omega arith) in
-      let rest = le-leb (ended .length) (length page - at) (omega (arith, ended-length)) in
-      simp (narrow, start, rest)
+    pub ended-length : ended .length ≡ length xs + 1
+    ended-length = ap (λ (l : Line). l .length) text ∙ holds .0
 
-  pub laid-after : afterOf (length page) at ended ≡ at + (length xs + 1)
-  laid-after = sym (pick-yes _ _ _ _ fits refl) ∙ ap (λ (n : ℕ). at + n) ended-length
+    fits : fitsOf (length page) at (ended .length) ≡ true
+    fits =
+        let narrow = le-leb (ended .length) lineWidth (omega (arith, ended-length)) in
+        let start = le-leb at (length page) (omega arith) in
+        let rest = le-leb (ended .length) (length page - at) (omega (arith, ended-length)) in
+        simp (narrow, start, rest)
 
-  pub laid-shows : take (at + (length xs + 1)) (laidOf page at ended) ≡ take at page ++ (xs ++ ascii "\n")
-  laid-shows =
-      let wide : length (ended .bytes) ≡ lineWidth = ap (λ (l : Line). length (l .bytes)) text ∙ holds .1 in
-      let all : shown ended ≡ xs ++ ascii "\n" = ap shown text ∙ line-shows (xs ++ ascii "\n") (omega (arith, size)) in
-      let copied = copy-shows page at (ended .bytes) (ended .length) (omega (arith, ended-length)) (omega (arith, ended-length, wide)) in
-      ap (λ (n : ℕ). take (at + n) (laidOf page at ended)) (sym ended-length)
-      ∙ ap (λ (p : List ℕ). take (at + ended .length) p) (sym (pick-yes _ _ _ _ fits refl))
-      ∙ copied
-      ∙ ap (λ (l : List ℕ). take at page ++ l) all
+    pub laid-after : afterOf (length page) at ended ≡ at + (length xs + 1)
+    laid-after = sym (pick-yes _ _ _ _ fits refl) ∙ ap (λ (n : ℕ). at + n) ended-length
+
+    pub laid-shows : take (at + (length xs + 1)) (laidOf page at ended) ≡ take at page ++ (xs ++ ascii "\n")
+    laid-shows =
+        let wide : length (ended .bytes) ≡ lineWidth = ap (λ (l : Line). length (l .bytes)) text ∙ holds .1 in
+        let all = ap shown text ∙ line-shows (xs ++ ascii "\n") (omega (arith, size)) in
+        let fill : at + ended .length ≤ length page = omega (arith, ended-length) in
+        let held : ended .length ≤ length (ended .bytes) = omega (arith, ended-length, wide) in
+        let copied = copy-shows page at (ended .bytes) (ended .length) fill held in
+        ap (λ (n : ℕ). take (at + n) (laidOf page at ended)) (sym ended-length)
+        ∙ ap (λ (p : List ℕ). take (at + ended .length) p) (sym (pick-yes _ _ _ _ fits refl))
+        ∙ copied
+        ∙ ap (λ (l : List ℕ). take at page ++ l) all

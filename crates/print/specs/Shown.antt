@@ -29,22 +29,36 @@ use Rattle.print.specs.declared.line.Line.{Line}
 
 -- ── a line's text ──
 
-put-fits : (l : Line) (b : ℕ) → l .length < lineWidth → putOf l b ≡ record { bytes = set (l .bytes) (l .length) b; length = l .length + 1 }
+put-fits :
+    (l : Line) (b : ℕ) → l .length < lineWidth
+    → putOf l b ≡ record { bytes = set (l .bytes) (l .length) b; length = l .length + 1 }
 put-fits l b h = sym (pick-yes _ _ _ _ (lt-ltb (l .length) lineWidth h) refl)
 
 -- one byte more
-shown-byte : (l : Line) (b : ℕ) → length (l .bytes) ≡ lineWidth → l .length < lineWidth → shown (putOf l b) ≡ shown l ++ (b ∷ [])
+shown-byte :
+    (l : Line) (b : ℕ) → length (l .bytes) ≡ lineWidth → l .length < lineWidth
+    → shown (putOf l b) ≡ shown l ++ (b ∷ [])
 shown-byte l b w h =
     let e : l .length + 1 ≡ suc (l .length) = omega arith in
-    ap shown (put-fits l b h) ∙ ap (λ (k : ℕ). take k (set (l .bytes) (l .length) b)) e ∙ take-suc-set (l .bytes) (l .length) b (omega (arith, w, h))
+    ap shown (put-fits l b h)
+    ∙ ap (λ (k : ℕ). take k (set (l .bytes) (l .length) b)) e
+    ∙ take-suc-set (l .bytes) (l .length) b (omega (arith, w, h))
 
-pub shown-text : (xs : List ℕ) (l : Line) → length (l .bytes) ≡ lineWidth → l .length + length xs ≤ lineWidth → shown (putAll l xs) ≡ shown l ++ xs
+-- a byte more, in as many as before
+put-wide :
+    (l : Line) (b : ℕ) → length (l .bytes) ≡ lineWidth → l .length < lineWidth
+    → length (putOf l b .bytes) ≡ lineWidth
+put-wide l b w h = ap (λ (k : Line). length (k .bytes)) (put-fits l b h) ∙ length-set (l .bytes) (l .length) b ∙ w
+
+pub shown-text :
+    (xs : List ℕ) (l : Line) → length (l .bytes) ≡ lineWidth → l .length + length xs ≤ lineWidth
+    → shown (putAll l xs) ≡ shown l ++ xs
 unfolding putAll
 shown-text [] l w h = sym (append-nil (shown l))
 shown-text (x ∷ xs) l w h =
     let room : l .length < lineWidth = omega (arith, h) in
     let next = put-fits l x room in
-    let wide : length (putOf l x .bytes) ≡ lineWidth = ap (λ (k : Line). length (k .bytes)) next ∙ length-set (l .bytes) (l .length) x ∙ w in
+    let wide = put-wide l x w (omega (arith, h)) in
     let long : putOf l x .length ≡ l .length + 1 = ap (λ (k : Line). k .length) next in
     shown-text xs (putOf l x) wide (omega (arith, h, long))
     ∙ ap (λ (s : List ℕ). s ++ xs) (shown-byte l x w room)
@@ -62,13 +76,15 @@ unfolding putAll
 put-holds [] l w h = (omega arith, w)
 put-holds (x ∷ xs) l w h =
     let next = put-fits l x (omega (arith, h)) in
-    let wide : length (putOf l x .bytes) ≡ lineWidth = ap (λ (k : Line). length (k .bytes)) next ∙ length-set (l .bytes) (l .length) x ∙ w in
+    let wide = put-wide l x w (omega (arith, h)) in
     let long : putOf l x .length ≡ l .length + 1 = ap (λ (k : Line). k .length) next in
     let rest = put-holds xs (putOf l x) wide (omega (arith, h, long)) in
     (omega (arith, rest .0, long), rest .1)
 
 -- a line of a text has its length, in bytes of a line
-pub line-holds : (xs : List ℕ) → length xs ≤ lineWidth → (lineOf xs .length ≡ length xs) × (length (lineOf xs .bytes) ≡ lineWidth)
+pub line-holds :
+    (xs : List ℕ) → length xs ≤ lineWidth
+    → (lineOf xs .length ≡ length xs) × (length (lineOf xs .bytes) ≡ lineWidth)
 line-holds xs h =
     let held = put-holds xs blankOf refl (omega (arith, h)) in
     (omega (arith, held .0), held .1)
@@ -90,14 +106,16 @@ digits-value zero n h =
     ap (valueFrom 0) (sym (digits-none 0 n refl)) ∙ sym none
 digits-value (suc places) n h = by (decLt n 10) (digits-value places (n / 10))
   where
-    by : Dec (n < 10) → (n / 10 < 10 ^ places → valueFrom 0 (decimalBy places (n / 10)) ≡ n / 10) → valueFrom 0 (decimalBy (suc places) n) ≡ n
+    by :
+        Dec (n < 10) → (n / 10 < 10 ^ places → valueFrom 0 (decimalBy places (n / 10)) ≡ n / 10)
+        → valueFrom 0 (decimalBy (suc places) n) ≡ n
     by (yes few) rest =
         let last : 10 * 0 + (48 + n - 48) ≡ n = omega arith in
         ap (valueFrom 0) (sym (digits-one (suc places) n (omega arith) few)) ∙ last
     by (no many) rest =
         let less : suc places - 1 ≡ places = omega arith in
         let below : n / 10 < 10 ^ places = omega (arith, h, pow-suc 10 places) in
-        let front : valueFrom 0 (decimalBy (suc places - 1) (n / 10)) ≡ n / 10 = ap (λ (p : ℕ). valueFrom 0 (decimalBy p (n / 10))) less ∙ rest below in
+        let front = ap (λ (p : ℕ). valueFrom 0 (decimalBy p (n / 10))) less ∙ rest below in
         let whole : 10 * (n / 10) + (48 + n % 10 - 48) ≡ n = omega arith in
         ap (valueFrom 0) (sym (digits-more (suc places) n (omega arith) (omega (arith, many))))
         ∙ value-end (decimalBy (suc places - 1) (n / 10)) 0 (48 + n % 10)

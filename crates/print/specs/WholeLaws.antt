@@ -4,7 +4,7 @@
 -- Not here: what is said of a file's lines (Statements.antt); lines laid on a page (PageLaws.antt).
 -- Assumes nothing.
 use Prim.Native.Nat.{ℕ, zero, suc, _+_, _*_, _/_, _<_, _≤_}
-use mathlib.Core.List.{List, [], _∷_, _++_, append-assoc, append-nil}
+use mathlib.Core.List.{List, [], _∷_, _++_, append-assoc}
 use mathlib.Core.Path.{_≡_, refl, sym, ap, _∙_}
 use native.Mathlib.Decide.{decLt}
 use native.Mathlib.Omega.{arith}
@@ -185,7 +185,8 @@ module _
         (at : ℕ) (t : ThreadNumber) (r : Reply) (m : Machine) (later : List (List ℕ)) (n : ℕ)
         → length (bytesOf later) ≤ n
         → length (bytesOf (linesBy line at t r m later)) ≤ lineWidth + n
-    by-reply at t (Accepted answer woken) m later n h = one-line (line at t answer woken m) later n (short at t answer woken m) h
+    by-reply at t (Accepted answer woken) m later n h =
+        one-line (line at t answer woken m) later n (short at t answer woken m) h
     by-reply at t (Refused refusal) m later n h = stop-line at (Stop.Refused refusal) n
 
     -- at most a line's width for each event, and one more

@@ -99,7 +99,8 @@ module _ (m : Machine) where
   listed-short : goodCount (m .count) ≡ true → length (listedText (waitersOf m)) ≤ 16
   listed-short good =
       let w = waitersOf m in
-      pick-both (λ (text : List ℕ). length text ≤ 16) (eqb (w .length) 0) (ascii " -") (nodesText threadLimit (w .nodes))
+      let nodes = nodesText threadLimit (w .nodes) in
+      pick-both (λ (text : List ℕ). length text ≤ 16) (eqb (w .length) 0) (ascii " -") nodes
       (λ _. omega arith)
       (λ _. omega (arith, nodes-short (w .nodes) (node-small good) threadLimit))
 

@@ -3,7 +3,7 @@ use mathlib.Core.Path.{refl}
 use borrow.Author.Needs.{needs}
 use lib.ListN.{replicate}
 use Rattle.print.specs.Line.{lineWidth}
-use Rattle.console.specs.Printing.{line-written}
+use Rattle.console.specs.Written.{line-written}
 use Rattle.console.proofs.output.write_line.Statement.{statement}
 use Rattle.console.proofs.output.write_line.Tie as tie
 
@@ -22,7 +22,8 @@ flush-requires c κs = search needs
 returns : tie.Need-returns
 returns c =
     let laid = c .before .before .before .lay-line .ensures in
-    line-written (c .before .before .before .before .before .args .line) (replicate lineWidth 0) refl (laid .0) (laid .1) (c .flush .ensures)
+    let line = c .before .before .before .before .before .args .line in
+    line-written line (replicate lineWidth 0) refl (laid .0) (laid .1) (c .flush .ensures)
 
 pub write-line-spec : {M : Type 1} → statement M
 write-line-spec =

@@ -1,11 +1,11 @@
--- `console::pages::fill` meets its contract: what is laid, and then what is left, stays what was to be printed. Assumes nothing.
+-- `console::pages::fill` meets its contract: what is laid, and then what is left, stays what was to be printed.
+-- Assumes nothing.
 use Prim.Native.Nat.{_-_}
 use mathlib.Core.Path.{sym, _∙_}
 use native.Mathlib.Omega.{arith}
 use borrow.Author.Needs.{needs}
 use lib.ListN.{length}
-use Rattle.console.specs.Moves.{moves}
-use Rattle.console.specs.Filling.{lays-move, no-room, Filling, filling-start, goes-on, is-over, no-more}
+use Rattle.console.specs.Filling.{no-room, Filling, filling-start, fills-up, goes-on, is-over, no-more}
 use Rattle.console.proofs.pages.fill.Statement.{statement}
 use Rattle.console.proofs.pages.fill.Tie as tie
 
@@ -48,12 +48,11 @@ returns c =
     let n = y .before .before .before in
     let r = n .before .before in
     let l = r .before .loop in
-    let a = r .before .before .before .before .args in
     let room = sym (r .has-room .ensures) ∙ n .before .if1 .taken in
-    let moved = n .next .result in
     let line = y .before .line-of .ensures in
-    let laid = lays-move {page = l .page} {at = l .at} (a .traced) (l .cursor .at) moved room line (y .lay-line .ensures .0) (y .lay-line .ensures .1) in
-    is-over (l .inv) laid (moves (l .cursor) (a .s .now) (a .traced) (n .next .ensures)) (g .going-of .result) (g .going-of .ensures) (c .enum-told .given .0 .0) (c .enum-told .given .1)
+    let laid = y .lay-line .ensures in
+    let told = c .enum-told .given in
+    is-over (l .inv) room (n .next .ensures) line (laid .0) (laid .1) (g .going-of .ensures) (told .0 .0) (told .1)
 
 enum-told-2 : tie.Need-enum-told-2 Inv-loop μ-loop
 enum-told-2 c = search needs
@@ -65,12 +64,10 @@ loop-less c =
     let n = y .before .before .before in
     let r = n .before .before in
     let l = r .before .loop in
-    let a = r .before .before .before .before .args in
     let room = sym (r .has-room .ensures) ∙ n .before .if1 .taken in
-    let moved = n .next .result in
     let line = y .before .line-of .ensures in
-    let laid = lays-move {page = l .page} {at = l .at} (a .traced) (l .cursor .at) moved room line (y .lay-line .ensures .0) (y .lay-line .ensures .1) in
-    omega (arith, laid .after, laid .size, laid .within)
+    let laid = y .lay-line .ensures in
+    fills-up (l .inv) room (n .next .ensures) line (laid .0) (laid .1)
 
 loop-again : tie.Need-loop-again Inv-loop μ-loop
 loop-again c =
@@ -79,12 +76,11 @@ loop-again c =
     let n = y .before .before .before in
     let r = n .before .before in
     let l = r .before .loop in
-    let a = r .before .before .before .before .args in
     let room = sym (r .has-room .ensures) ∙ n .before .if1 .taken in
-    let moved = n .next .result in
     let line = y .before .line-of .ensures in
-    let laid = lays-move {page = l .page} {at = l .at} (a .traced) (l .cursor .at) moved room line (y .lay-line .ensures .0) (y .lay-line .ensures .1) in
-    goes-on (l .inv) laid (moves (l .cursor) (a .s .now) (a .traced) (n .next .ensures)) (g .going-of .result) (g .going-of .ensures) (c .enum-told2 .given .1)
+    let laid = y .lay-line .ensures in
+    let told = c .enum-told2 .given in
+    goes-on (l .inv) room (n .next .ensures) line (laid .0) (laid .1) (g .going-of .ensures) (told .1)
 
 same-length-2 : tie.Need-same-length-2 Inv-loop μ-loop
 same-length-2 c = search needs
@@ -92,9 +88,9 @@ same-length-2 c = search needs
 returns-2 : tie.Need-returns-2 Inv-loop μ-loop
 returns-2 c =
     let l = c .before .before .loop in
+    let none = sym (c .before .has-room .ensures) ∙ c .if1 .left in
     let pre = c .before .before .before .before .before .pre in
-    let none = no-room (length (l .page)) (l .at) (sym (c .before .has-room .ensures) ∙ c .if1 .left) (omega (arith, pre, l .inv .size)) in
-    no-more (l .inv) none
+    no-more (l .inv) (no-room (length (l .page)) (l .at) none (omega (arith, pre, l .inv .size)))
 
 pub fill-spec : {M : Type 1} → statement M
 fill-spec =

@@ -45,7 +45,7 @@ returns c =
     let k = c .before .before in
     let h = k .before .before in
     let a = h .before .before .args in
-    c .refused .ensures ∙ file-refused (a .traced) (a .s .now) _ (sym (h .check .ensures) ∙ k .checked .given .1)
+    c .refused .ensures ∙ file-refused (a .s .now) _ (sym (h .check .ensures) ∙ k .checked .given .1) (a .traced)
 
 returns-2 : tie.Need-returns-2
 returns-2 c =

@@ -6,7 +6,8 @@ use lib.ListN.{length}
 use lib.Seq.{length-take-le}
 use Rattle.print.specs.Whole.{bytesOf}
 use Rattle.console.specs.Runs.{endLines}
-use Rattle.console.specs.Printing.{written-all, ends-none}
+use Rattle.console.specs.Written.{written-all}
+use Rattle.console.specs.ThreadLines.{ends-none}
 use Rattle.console.proofs.runs.last.Statement.{statement}
 use Rattle.console.proofs.runs.last.Tie as tie
 

@@ -1,10 +1,11 @@
--- `console::runs::refused` meets its contract: a refused file's line, and a fresh machine of one thread. Assumes nothing.
+-- `console::runs::refused` meets its contract: a refused file's line, and a fresh machine of one thread.
+-- Assumes nothing.
 use mathlib.Core.Path.{ap, _∙_}
 use borrow.Author.Needs.{needs}
 use Rattle.print.specs.Line.{lineOf}
 use Rattle.print.specs.Replayed.{refusedText}
 use Rattle.console.specs.Output.{lineWritten}
-use Rattle.console.specs.Printing.{refused-written}
+use Rattle.console.specs.Written.{refused-written}
 use Rattle.console.proofs.runs.refused.Statement.{statement}
 use Rattle.console.proofs.runs.refused.Tie as tie
 

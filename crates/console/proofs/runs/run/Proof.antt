@@ -1,4 +1,5 @@
--- `console::runs::run` meets its contract: what is written, and then what is left, stays what was to be printed. Assumes nothing.
+-- `console::runs::run` meets its contract: what is written, and then what is left, stays what was to be printed.
+-- Assumes nothing.
 use Prim.Native.Nat.{_/_, _-_}
 use mathlib.Core.Path.{ap, _∙_}
 use native.Mathlib.Omega.{arith}
@@ -6,7 +7,8 @@ use borrow.Author.Needs.{needs}
 use lib.ListN.{length}
 use Rattle.schedule.specs.File.{eventWidth}
 use Rattle.console.specs.Pages.{toPrint, toRun}
-use Rattle.console.specs.Printing.{Paging, paging-start, paging-most, paging-on, paging-less, paging-over, run-printed}
+use Rattle.console.specs.Paging.{Paging, paging-start, paging-most, paging-on, paging-less, paging-over}
+use Rattle.console.specs.Printing.{run-printed}
 use Rattle.console.proofs.runs.run.Statement.{statement}
 use Rattle.console.proofs.runs.run.Tie as tie
 
@@ -34,7 +36,8 @@ add-bytes : tie.Need-add-bytes Inv-loop μ-loop
 add-bytes c =
     let f = c .before .before .before .before in
     let l = f .before .before in
-    omega (arith, paging-most (l .loop .inv) (f .fill .ensures) (c .flush .ensures), l .before .before .before .before .pre)
+    let most = paging-most (l .loop .inv) (f .fill .ensures) (c .flush .ensures) in
+    omega (arith, most, l .before .before .before .before .pre)
 
 enum-known-going : tie.Need-enum-known-going Inv-loop μ-loop
 enum-known-going c = search needs
@@ -82,7 +85,8 @@ loop-again : tie.Need-loop-again Inv-loop μ-loop
 loop-again c =
     let h = c .before .before .before in
     let f = h .before .before .before .before in
-    paging-on (f .before .before .loop .inv) (f .fill .ensures) (h .flush .ensures) (search needs) (c .enum-told .given .1)
+    let on = c .enum-told .given .1 in
+    paging-on (f .before .before .loop .inv) (f .fill .ensures) (h .flush .ensures) (search needs) on
 
 pub run-spec : {M : Type 1} → statement M
 run-spec =

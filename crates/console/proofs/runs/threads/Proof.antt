@@ -13,7 +13,7 @@ use Rattle.traced.specs.Fits.{thread-text-short}
 use Rattle.traced.specs.Thread.{threadText}
 use Rattle.traced.specs.Whole.{threadLines}
 use Rattle.console.specs.Filling.{lays}
-use Rattle.console.specs.Printing.{LaysThreads, threads-none, threads-more}
+use Rattle.console.specs.ThreadLines.{LaysThreads, threads-none, threads-more}
 use Rattle.console.proofs.runs.threads.Statement.{statement}
 use Rattle.console.proofs.runs.threads.Tie as tie
 
@@ -46,9 +46,12 @@ loop-again c =
     let l = n .before .before .loop in
     let a = n .before .before .before .before .args in
     let text = threadText (a .m) (thread (l .k)) in
+    let pre = n .before .before .before .before .pre in
     let short : length text < lineWidth = omega (arith, thread-text-short (a .m) (thread (l .k))) in
-    let room : l .at + lineWidth ≤ length (l .page) = omega (arith, l .inv .within, l .inv .size, n .before .before .before .before .pre) in
-    let laid = lays {page = l .page} {at = l .at} room short (y .before .thread-line .ensures) (y .lay-line .ensures .0) (y .lay-line .ensures .1) in
+    let room : l .at + lineWidth ≤ length (l .page) = omega (arith, l .inv .within, l .inv .size, pre) in
+    let line = y .before .thread-line .ensures in
+    let done = y .lay-line .ensures in
+    let laid = lays {page = l .page} {at = l .at} room short line (done .0) (done .1) in
     record {
       below = omega arith;
       size = laid .size ∙ l .inv .size;
@@ -64,8 +67,8 @@ returns c =
     let l = c .before .before .loop in
     let a = c .before .before .before .before .args in
     let all : l .k ≡ a .m .count = omega arith in
-    let small = l .inv .within in
-    (omega (arith, l .inv .size, c .before .before .before .before .pre), l .inv .bytes ∙ ap (λ k. bytesOf (threadLines k (a .m))) all)
+    let within = omega (arith, l .inv .within, l .inv .size, c .before .before .before .before .pre) in
+    (within, l .inv .bytes ∙ ap (λ k. bytesOf (threadLines k (a .m))) all)
 
 pub threads-spec : {M : Type 1} → statement M
 threads-spec =
