@@ -1,5 +1,10 @@
 pub mod Place
 pub mod Event
 pub mod Thread
+pub mod Whole
+pub mod Statements
+pub mod Theorems
+pub mod WrongTrace
+pub mod Fits
 pub mod Laws
 pub mod Determined

@@ -1,0 +1,16 @@
+pub mod Allowed
+pub mod Looks
+pub mod Examples
+pub mod Word
+pub mod State
+pub mod Walk
+pub mod Acquire
+pub mod Unlock
+pub mod Release
+pub mod Lock
+pub mod Listing
+pub mod Schedule
+pub mod Held
+pub mod Standing
+pub mod Print
+pub mod Traced
