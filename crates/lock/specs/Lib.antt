@@ -12,6 +12,5 @@ pub mod Store
 pub mod StoreLaws
 pub mod EventDecides
 pub mod Effect
-pub mod Determined
 pub mod Stored
 pub mod Still

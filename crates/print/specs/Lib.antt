@@ -10,4 +10,3 @@ pub mod Page
 pub mod PageLaws
 pub mod Laws
 pub mod Shown
-pub mod Determined

@@ -8,5 +8,4 @@ pub mod Statements
 pub mod Beginnings
 pub mod Theorems
 pub mod Judged
-pub mod Determined
 pub mod WrongReplay

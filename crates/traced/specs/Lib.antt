@@ -7,4 +7,3 @@ pub mod Theorems
 pub mod WrongTrace
 pub mod Fits
 pub mod Laws
-pub mod Determined
