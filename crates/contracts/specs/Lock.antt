@@ -1,5 +1,7 @@
 -- The contracts of crate lock: each public function's result is determined, and wrong answers that its contract rules
--- out. Codes, then one event. What every event keeps to, on every machine, is crate promises' subject. Assumes nothing.
+-- out. Codes; what an event looks at, and what it decides by that; one event. What every event keeps to, on every
+-- machine, is crate promises' subject.
+-- Assumes nothing.
 use Prim.Native.Nat.{ℕ}
 use mathlib.Core.Bool.{true, false≢true}
 use mathlib.Core.Path.{refl}
@@ -10,8 +12,8 @@ use Rattle.word.specs.declared.number.Owner.{Owner}
 use Rattle.word.specs.declared.number.Owner.the-variants as Owners
 use Rattle.word.specs.declared.number.ThreadNumber.{ThreadNumber}
 use Rattle.state.specs.Access.{accessOf}
-use Rattle.state.specs.Machine.{threadAt, refusedOf}
-use Rattle.state.specs.Node.{blankNode, withCompleted}
+use Rattle.state.specs.Machine.{blankThread, threadAt, nodeAt, refusedOf}
+use Rattle.state.specs.Node.{blankNode, filledOf, withCompleted}
 use Rattle.state.specs.declared.answer.Answer.{Answer}
 use Rattle.state.specs.declared.answer.Answer.the-variants.{Begun, Done, Went}
 use Rattle.state.specs.declared.answer.Refusal.the-variants.{NoThread, NotInCall, UnknownCode}
@@ -20,16 +22,26 @@ use Rattle.state.specs.declared.holding.Holding.{Holding}
 use Rattle.state.specs.declared.holding.Holding.the-variants as Holds
 use Rattle.state.specs.declared.machine.Machine.{Machine}
 use Rattle.state.specs.declared.machine.Outcome.{Outcome}
+use Rattle.state.specs.declared.machine.Thread.{Thread}
+use Rattle.state.specs.declared.node.Node.{Node}
 use Rattle.state.specs.declared.place.Place.{Place}
 use Rattle.state.specs.declared.place.Place.the-variants as At
-use Rattle.state.specs.declared.place.Who.the-variants.{Waiter}
+use Rattle.state.specs.declared.place.Walk.the-variants.{Queue}
+use Rattle.state.specs.declared.place.Who.the-variants.{Waiter, Leaver}
+use Rattle.state.specs.declared.view.Mark.the-variants.{Missing}
+use Rattle.state.specs.declared.view.Stepped.the-variants as Steps
 use Rattle.lock.specs.Advance.{advanceOf}
+use Rattle.lock.specs.Decide.{eventVerdict, decideOf}
 use Rattle.lock.specs.Event.{eventOf}
+use Rattle.lock.specs.Look.{touchedIndex, tailIndex, lookFrom, lookOf}
 use Rattle.lock.specs.Step.{markedOf, stepOf}
 use Rattle.lock.specs.declared.code.Call.the-variants as Calls
 use Rattle.lock.specs.declared.code.Code.the-variants as Codes
+use Rattle.lock.specs.declared.look.Look.{Look}
 use Rattle.lock.proofs.code.code_of.Reads as code-of
+use Rattle.lock.proofs.decide.decide.Reads as decide
 use Rattle.lock.proofs.event.event.Reads as event
+use Rattle.lock.proofs.look.look_at.Reads as look-at
 use Rattle.contracts.specs.Allowed.{Determined, _&_, allows, apart-by, apart-in, clash, determined}
 use Rattle.contracts.specs.Examples.{machineOf, threadOf}
 
@@ -46,6 +58,56 @@ code-of-sixteen-fails e = clash (cc)
 
 pub code-of-four-and-five-swapped : allows code-of.Post (4 & tt) (Codes.Begin Calls.WriteUnlock) → ⊥
 code-of-four-and-five-swapped e = clash (cc)
+
+-- ── look, decide ──
+
+pub look-at-determined : (m : Machine) (me : ThreadNumber) → Determined (allows look-at.Post (m & me & tt))
+look-at-determined m me = determined
+
+abbrev walking : Thread
+walking = threadOf (At.WalkTail (Queue Leaver) (word 18) (node 1)) Holds.Nothing
+
+-- thread 1 stands at the load of node 1's tail; node 1 is a writer's
+abbrev walker : Machine
+walker = machineOf 2 18 (filledOf (thread 0) true (word 1) ∷ []) (blankThread ∷ walking ∷ [])
+
+abbrev looking : Thread → Node → Look
+looking t n = record { count = 2; word = word 18; me = thread 1; thread = t; node = n; mark = Missing }
+
+pub look-at-another-thread :
+    allows look-at.Post (walker & thread 1 & tt) (looking blankThread (nodeAt walker 0)) → ⊥
+unfolding lookOf lookFrom touchedIndex tailIndex accessOf markedOf
+look-at-another-thread = apart-in (λ l. l .thread .place) (λ e. clash (cc))
+
+pub look-at-the-own-node :
+    allows look-at.Post (walker & thread 1 & tt) (looking (threadAt walker 1) (nodeAt walker 1)) → ⊥
+unfolding lookOf lookFrom touchedIndex tailIndex accessOf markedOf
+look-at-the-own-node = apart-in (λ l. l .node .writer) false≢true
+
+pub decide-determined : (look : Look) (code : ℕ) → Determined (allows decide.Post (look & code & tt))
+decide-determined look code = determined
+
+-- a thread that is not there, of so many threads
+abbrev absent : ℕ → Look
+absent count =
+    record {
+      count = count;
+      word = word 0;
+      me = thread 9;
+      thread = blankThread;
+      node = blankNode;
+      mark = Missing;
+    }
+
+pub decide-asks-for-the-thread-before-the-code :
+    allows decide.Post (absent 1 & 7 & tt) (Steps.Refused NoThread) → ⊥
+unfolding decideOf eventVerdict
+decide-asks-for-the-thread-before-the-code e = clash (cc)
+
+pub decide-asks-for-the-code-before-the-count :
+    allows decide.Post (absent 0 & 7 & tt) (Steps.Refused UnknownCode) → ⊥
+unfolding decideOf eventVerdict
+decide-asks-for-the-code-before-the-count e = clash (cc)
 
 -- ── one event ──
 
