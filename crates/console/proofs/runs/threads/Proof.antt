@@ -67,7 +67,8 @@ returns c =
     let l = c .before .before .loop in
     let a = c .before .before .before .before .args in
     let all : l .k ≡ a .m .count = omega arith in
-    let within = omega (arith, l .inv .within, l .inv .size, c .before .before .before .before .pre) in
+    let pre = c .before .before .before .before .pre in
+    let within : l .at ≤ length (l .page) = omega (arith, l .inv .within, l .inv .size, pre) in
     (within, l .inv .bytes ∙ ap (λ k. bytesOf (threadLines k (a .m))) all)
 
 pub threads-spec : {M : Type 1} → statement M
