@@ -2,4 +2,3 @@ pub mod TryRead
 pub mod TryWrite
 pub mod LockContended
 pub mod Wait
-pub mod Determined

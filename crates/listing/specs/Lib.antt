@@ -3,4 +3,3 @@ pub mod Way
 pub mod ReaderCount
 pub mod Laws
 pub mod Examples
-pub mod Determined

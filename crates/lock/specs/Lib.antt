@@ -7,6 +7,5 @@ pub mod Step
 pub mod Event
 pub mod Laws
 pub mod Effect
-pub mod Determined
 pub mod Stored
 pub mod Still

@@ -5,4 +5,3 @@ pub mod Page
 pub mod PageLaws
 pub mod Laws
 pub mod Shown
-pub mod Determined

@@ -2,4 +2,3 @@ pub mod ReadUnlock
 pub mod WriteUnlock
 pub mod UnlockContended
 pub mod Downgrade
-pub mod Determined

@@ -8,4 +8,3 @@ pub mod Statements
 pub mod Beginnings
 pub mod Theorems
 pub mod Judged
-pub mod Determined

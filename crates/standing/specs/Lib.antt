@@ -3,4 +3,3 @@ pub mod Look
 pub mod Stands
 pub mod LookLaws
 pub mod Rouses
-pub mod Determined

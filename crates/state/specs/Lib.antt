@@ -4,4 +4,3 @@ pub mod Access
 pub mod Answer
 pub mod Machine
 pub mod View
-pub mod Determined

@@ -1,3 +1,2 @@
 pub mod AfterWalk
 pub mod UnlockQueue
-pub mod Determined

@@ -1,3 +1,2 @@
 pub mod FindTail
 pub mod CompleteAll
-pub mod Determined

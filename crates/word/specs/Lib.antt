@@ -6,4 +6,3 @@ pub mod Rules
 pub mod Cases
 pub mod Laws
 pub mod Table
-pub mod Determined
