@@ -58,8 +58,8 @@ first-allowed ToWrite h e = record { off = off-queue _ _ _ _; allowed = nothing-
 first-allowed TryRead h e = record { off = off-queue _ _ _ _; allowed = nothing-held h e; needs = refl; leaves = refl }
 first-allowed TryWrite h e = record { off = off-queue _ _ _ _; allowed = nothing-held h e; needs = refl; leaves = refl }
 first-allowed ReadUnlock h e = record { off = off-queue _ _ _ _; allowed = read-held h e; needs = refl; leaves = refl }
-first-allowed WriteUnlock h
-    e = record { off = off-queue _ _ _ _; allowed = write-held h e; needs = refl; leaves = refl }
+first-allowed WriteUnlock h e =
+    record { off = off-queue _ _ _ _; allowed = write-held h e; needs = refl; leaves = refl }
 first-allowed Downgrade h e = record { off = off-queue _ _ _ _; allowed = write-held h e; needs = refl; leaves = refl }
 
 pub kept-begin : {n : ℕ} {s : Lock} {g : Ghost} (i : Inv n s g) (t : ℕ) → t < n → s .th t .place ≡ Idle → (call : Call)

@@ -17,9 +17,9 @@ use Rattle.queue.specs.Tests.{never, not-true}
 use Rattle.queue.specs.Tickets.{Ghost}
 use Rattle.invariant.specs.Table.{Lock, Free, leaver}
 use Rattle.invariant.specs.Invariant.{readers, writers, leavers, Hold, Unqueued, empty, written, read, by-writer}
-use Rattle.invariant.specs.Invariant.{Inv}
+use Rattle.invariant.specs.Invariant.{Inv, CountedAs, HoldersAre}
 use Rattle.invariant.specs.OffQueue.{RoleDown, Ended}
-use Rattle.invariant.specs.Words.{Plain, word-is, readers-word, granted-word}
+use Rattle.invariant.specs.Words.{Plain, word-is, readers-word, granted-word, counts-bare}
 
 module _ {n : ℕ} {s : Lock} {g : Ghost} (i : Inv n s g) (t : ℕ) (tin : t < n) (o : RoleDown s g t) where
   -- an unqueued word becomes another
@@ -34,14 +34,7 @@ module _ {n : ℕ} {s : Lock} {g : Ghost} (i : Inv n s g) (t : ℕ) (tin : t < n
     handed = λ e. never (p .unqueued) e;
     bare = λ e. p .plain;
     plain = λ u ne e. p .plain;
-    count =
-        λ r v l er ev el.
-        record {
-          bare = λ _. count r v l er ev el;
-          unlocked = λ e. never (p .unqueued) e;
-          handed = λ e. never (p .unqueued) e;
-          held = λ e. never (p .unqueued) e;
-        };
+    count = λ r v l er ev el. counts-bare p (count r v l er ev el);
     unreal = λ e. never (p .unqueued) e;
     seen-to = λ e. never (p .unqueued) e;
   }
@@ -73,21 +66,21 @@ module _ {n : ℕ} {s : Lock} {g : Ghost} (i : Inv n s g) (t : ℕ) (tin : t < n
     free-word : queued (s .word) ≡ false → s .word ≡ word 0
     free-word e = by (i .count .bare e)
       where
-        by : Unqueued (s .word) (readers n s) (writers n s) (leavers n s) → s .word ≡ word 0
+        by : CountedAs (Unqueued (s .word)) n s → s .word ≡ word 0
         by (empty z h) = word-is (s .word) 0 z
         by (written z h) = never un (readers-word (s .word) 0 z .locked)
         by (read z some h) = never un (readers-word (s .word) (readers n s) z .locked)
 
-    none-holds : Hold (readers n s) (writers n s) (leavers n s) 0 0 0
+    none-holds : HoldersAre n s 0 0 0
     none-holds = by (queued (s .word)) refl
       where
-        of : Unqueued (s .word) (readers n s) (writers n s) (leavers n s)
-            → Hold (readers n s) (writers n s) (leavers n s) 0 0 0
+        of : CountedAs (Unqueued (s .word)) n s
+            → HoldersAre n s 0 0 0
         of (empty z h) = h
         of (written z h) = never un (readers-word (s .word) 0 z .locked)
         of (read z some h) = never un (readers-word (s .word) (readers n s) z .locked)
 
-        by : (q : Bool) → queued (s .word) ≡ q → Hold (readers n s) (writers n s) (leavers n s) 0 0 0
+        by : (q : Bool) → queued (s .word) ≡ q → HoldersAre n s 0 0 0
         by true e = i .count .unlocked e un
         by false e = of (i .count .bare e)
 

@@ -29,7 +29,7 @@ use Rattle.queue.specs.Roles.{onQueue}
 use Rattle.queue.specs.Invariant as Q
 use Rattle.queue.specs.Taking
 use Rattle.invariant.specs.Table.{offQueue, writes, about, aboutAt, roleOf, Writes, leaver}
-use Rattle.invariant.specs.Invariant.{readers, writers, leavers, Hold, read, Newest, queueOf, Inv}
+use Rattle.invariant.specs.Invariant.{writers, leavers, read, Newest, queueOf, Inv, HoldersAre}
 use Rattle.invariant.specs.TableFacts.{row-facts}
 use Rattle.invariant.specs.Exclusion.{inside, unowned, reading, needs-some}
 use Rattle.invariant.specs.Moves.{downgrade-takes, downgrade-ends, downgrade-fails}
@@ -62,7 +62,7 @@ module _ (st : Setting) (needsQueue : Bool) (is : about (mine st .place) ≡ off
   some = writer-counts n s (me .0) tin holds
 
   -- it is the only holder
-  only : Hold (readers n s) (writers n s) (leavers n s) 0 1 0
+  only : HoldersAre n s 0 1 0
   only = record {
     reads = one-holder i some .0;
     writes = omega (arith, counts, one-holder i some .1);

@@ -32,8 +32,8 @@ pub record OffQueue (a : About) : Type 0 where
   pub ok : a .ok ≡ true
 
 pub off-queue : (may : May) (leaves needsQueue contends : Bool) → OffQueue (offQueue may leaves needsQueue contends)
-off-queue may leaves needsQueue
-    contends = record { role = refl; owner = refl; reader = refl; registered = refl; asleep = refl; ok = refl }
+off-queue may leaves needsQueue contends =
+    record { role = refl; owner = refl; reader = refl; registered = refl; asleep = refl; ok = refl }
 
 -- thread t owns nothing of the queue, and its role may be put down
 pub record RoleDown (s : Lock) (g : Ghost) (t : ℕ) : Type 0 where
@@ -42,12 +42,11 @@ pub record RoleDown (s : Lock) (g : Ghost) (t : ℕ) : Type 0 where
   pub role : Q.Inv g (Q.turned (queueOf s) t none)
 
 pub role-down : {n : ℕ} {s : Lock} {g : Ghost} (i : Inv n s g) (t : ℕ) → OffQueue (aboutAt s t) → RoleDown s g t
-role-down {s} {g} i t
-    o = record {
-      owner = o .owner;
-      registered = o .registered;
-      role = Q.turn g (queueOf s) (i .queue) t none (rw (o .role) at (i .queue .know t)) (never refl);
-    }
+role-down {s} {g} i t o = record {
+  owner = o .owner;
+  registered = o .registered;
+  role = Q.turn g (queueOf s) (i .queue) t none (rw (o .role) at (i .queue .know t)) (never refl);
+}
 
 module _ {n : ℕ} {s : Lock} {g : Ghost} (i : Inv n s g) (t : ℕ) (tin : t < n) (o : RoleDown s g t) where
   -- the queue's view where the thread goes on off the queue

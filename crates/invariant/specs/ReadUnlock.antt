@@ -24,8 +24,8 @@ use Rattle.queue.specs.Sums.{sum-le}
 use Rattle.queue.specs.Roles.{walk, looks}
 use Rattle.queue.specs.Invariant as Q
 use Rattle.invariant.specs.Table.{offQueue, reads, about, aboutAt, Reads, leaver}
-use Rattle.invariant.specs.Invariant.{readers, writers, leavers, Hold, Unqueued, empty, written, read, queueOf}
-use Rattle.invariant.specs.Invariant.{Inv}
+use Rattle.invariant.specs.Invariant.{readers, writers, leavers, Unqueued, empty, written, read, queueOf, Inv}
+use Rattle.invariant.specs.Invariant.{CountedAs, HoldersAre}
 use Rattle.invariant.specs.Frames.{stay, viewed-still}
 use Rattle.invariant.specs.Moves.{movesNoTicket}
 use Rattle.invariant.specs.Kept.{lookAt, Kept, placed, Goes, Setting, mine, goneTo, kept-stood, kept-compare}
@@ -58,7 +58,7 @@ module _ (st : Setting) (k : ℕ) (p : Place) (here : mine st .place ≡ p)
       → (s .word .0 ≡ SINGLE * readers n s + LOCKED) × (writers n s ≡ 0) × (leavers n s ≡ 0)
   counted q = by (i .count .bare q)
     where
-      by : Unqueued (s .word) (readers n s) (writers n s) (leavers n s)
+      by : CountedAs (Unqueued (s .word)) n s
           → (s .word .0 ≡ SINGLE * readers n s + LOCKED) × (writers n s ≡ 0) × (leavers n s ≡ 0)
       by (empty z h) = absurd (omega (arith, some, h .reads))
       by (written z h) = absurd (omega (arith, some, h .reads))
@@ -144,7 +144,7 @@ module _ (st : Setting) (k : ℕ) (p : Place) (here : mine st .place ≡ p)
     seen-to = λ _ _ e. never e (same-owner ∙ i .handed q d .0);
   }
     where
-      c : Hold (readers n s) (writers n s) (leavers n s) 1 0 0
+      c : HoldersAre n s 1 0 0
       c = i .count .handed q (i .handed q d .1) d
 
       unlocked : locked (clearLocked (clearDowngraded (s .word))) ≡ false
@@ -200,8 +200,6 @@ module _ (st : Setting) (k : ℕ) (p : Place) (here : mine st .place ≡ p)
       by false d′ false q d e = kept-stood st k here unmoved _ _ refl (ends-call i (me .0) tin down _ _ (left-word q))
 
 module _ (st : Setting) (k : ℕ) where
-  open Setting st using (n, s, g, i, me, tin)
-
   pub kept-read-unlock-load : mine st .place ≡ ReadUnlockLoad → Goes st k (λ v. readUnlockLoadOf v)
   kept-read-unlock-load here = judged st k ReadUnlockLoad here refl refl
 

@@ -117,12 +117,11 @@ module _ (st : Setting) (k : ℕ) where
     none-left : (r v l : ℕ) → r + readsOf (mine st .holding) ≡ readers n s + 0
         → v + writesOf (mine st .holding) ≡ writers n s + 0
         → l + leaver (mine st) ≡ leavers n s → Hold r v l 0 0 0
-    none-left r v l er ev
-        el = record {
-          reads = omega (arith, one-holder i some, reads-not);
-          writes = omega (arith, one-holder i some, own);
-          leaves = omega (arith, one-holder i some, own);
-        }
+    none-left r v l er ev el = record {
+      reads = omega (arith, one-holder i some, reads-not);
+      writes = omega (arith, one-holder i some, own);
+      leaves = omega (arith, one-holder i some, own);
+    }
 
     -- the owner of the queue sees to it
     left-to-owner : queueLocked (s .word) ≡ true

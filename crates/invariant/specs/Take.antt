@@ -26,15 +26,15 @@ use Rattle.queue.specs.Walking
 use Rattle.queue.specs.Taking
 use Rattle.invariant.specs.Table.{handsOff, writes, owning, about, Lock, aboutAt, linksOf, Allowed, weight}
 use Rattle.invariant.specs.Table.{leaver, same-role}
-use Rattle.invariant.specs.Invariant.{readers, writers, leavers, Hold, Unqueued, empty, read, Newest, queueOf}
-use Rattle.invariant.specs.Invariant.{Inv}
+use Rattle.invariant.specs.Invariant.{readers, writers, leavers, Unqueued, empty, read, Newest, queueOf, Inv}
+use Rattle.invariant.specs.Invariant.{HoldersAre}
 use Rattle.invariant.specs.Exclusion.{inside, owned, unowned, is-queued, lonely, nobody-needs}
 use Rattle.invariant.specs.Frames.{moved, land, viewed-still}
 use Rattle.invariant.specs.Moves.{takes-all, take-fails}
 use Rattle.invariant.specs.Kept.{kept-still, placed, Goes, Setting, mine, movedTo, kept-compare}
 use Rattle.invariant.specs.Owner.{again}
 use Rattle.invariant.specs.Split.{may-wake}
-use Rattle.invariant.specs.Words.{Plain, readers-word}
+use Rattle.invariant.specs.Words.{Plain, readers-word, counts-bare}
 
 -- ── the word is unqueued again, and the queue is thread t's ──
 
@@ -65,14 +65,7 @@ module _ {n : ℕ} {s : Lock} {g : Ghost} (i : Inv n s g) (t : ℕ) (tin : t < n
     inside = tin;
     owner = rw (c .owner, p .unowned) (omega (arith, c .owned));
     may = c .may;
-    count =
-        λ r v l er ev el.
-        record {
-          bare = λ e. c .count r v l er ev el;
-          unlocked = λ e. never (p .unqueued) e;
-          handed = λ e. never (p .unqueued) e;
-          held = λ e. never (p .unqueued) e;
-        };
+    count = λ r v l er ev el. counts-bare p (c .count r v l er ev el);
     needs = never (c .needs);
     needs-all = λ u ne e. absurd (c .needed u ne e);
     plain = λ e. p .plain;
@@ -153,7 +146,7 @@ module _ (st : Setting) (who : Who) (seen : Word) (tail : NodeNumber)
           → Inv n (movedTo st (word (SINGLE + LOCKED)) (placed (mine st) (WakePrev who tail)))
           (took g (me .0))
       handed d =
-          let c : Hold (readers n s) (writers n s) (leavers n s) 1 0 0 = i .count .handed has-queue
+          let c : HoldersAre n s 1 0 0 = i .count .handed has-queue
           (i .handed has-queue d .1) d in
           take-to same (word (SINGLE + LOCKED)) (readers-word (word (SINGLE + LOCKED)) 1 refl .is) (c .writes)
           (c .leaves) (inr (omega arith, omega arith))
@@ -162,7 +155,7 @@ module _ (st : Setting) (who : Who) (seen : Word) (tail : NodeNumber)
       free : downgraded (s .word) ≡ false
           → Inv n (movedTo st (word 0) (placed (mine st) (WakePrev who tail))) (took g (me .0))
       free d =
-          let c : Hold (readers n s) (writers n s) (leavers n s) 0 0 0 = i .count .unlocked has-queue
+          let c : HoldersAre n s 0 0 0 = i .count .unlocked has-queue
           (unlocked (locked (s .word)) (downgraded (s .word)) (ap handsOff same ∙ hands-on) d) in
           take-to same (word 0) (record { unqueued = refl; unowned = refl; plain = refl }) (c .writes) (c .leaves)
           (inl (refl, c .reads))
