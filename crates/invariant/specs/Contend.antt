@@ -168,8 +168,8 @@ module _ (st : Setting) (c : Contends st) where
           subst (λ w. Inv n
           (movedTo st w (became (mine st) Idle (grantedWrite (mine st .holding)))) g)
           is
-          (ends-call i (me .0) tin (c .down) (setLocked (s .word)) _
-          (ended-written i (me .0) tin (c .down) (c .free) (c .leaves) (unlocked x f .0)))
+          (ends-call st (c .down) (setLocked (s .word)) _
+          (ended-written st (c .down) (c .free) (c .leaves) (unlocked x f .0)))
       by WriteRefused f z = impossible (cc)
   kept-grant false to e = by (readLockOf (s .word)) refl e
     where
@@ -177,8 +177,8 @@ module _ (st : Setting) (c : Contends st) where
           → Inv n (movedTo st to (became (mine st) Idle (grantedRead (mine st .holding)))) g
       by (ReadTo x) f z =
           let is : x ≡ to = cc z in
-          ends-call i (me .0) tin (c .down) to _
-          (ended-read i (me .0) tin (c .down) (c .free) (c .leaves) to (f ∙ ap ReadTo is))
+          ends-call st (c .down) to _
+          (ended-read st (c .down) (c .free) (c .leaves) to (f ∙ ap ReadTo is))
       by ReadRefused f z = impossible (cc)
 
   module _ (writer : Bool) (reloads : ℕ) where
@@ -186,7 +186,7 @@ module _ (st : Setting) (c : Contends st) where
         → Kept st (suc (me .0)) (stays (lookAt st (suc (me .0))) (at q))
     on-to q told away near =
         kept-still st (suc (me .0)) _ _ g (c .unmoved q away near)
-        (goes-off-queue i (me .0) tin (c .down) q (rw told (off-queue _ _ _ _)) (rw told (c .free))
+        (goes-off-queue st (c .down) q (rw told (off-queue _ _ _ _)) (rw told (c .free))
         (rw told (never refl)) (rw told (sym (c .leaves))) (λ _. rw told))
 
     pub kept-contend : Kept st (suc (me .0)) (contendJudged (lookAt st (suc (me .0))) writer reloads (s .word))

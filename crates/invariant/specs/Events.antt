@@ -76,6 +76,20 @@ pub record Safe (m : Machine) (g : Ghost) (me : ThreadNumber) (o : Outcome) : Ty
   pub moved : Went me (threadAt m (me .0) .place) g (threadAt (o .machine) (me .0) .place) (ok .ghost)
   pub not-eight : o .reply ≡ RefusedBy Damaged → ⊥
 
+-- a step or a begin of its thread me, with the mark that it finds and whether its compare is made to fail
+abbrev settingOf : (m : Machine) → Ok m → (me : ThreadNumber) → me .0 < m .count → Mark → Bool → Setting
+settingOf m ok me tin mark fails =
+    record {
+      n = m .count;
+      s = lockOf m;
+      g = ok .ghost;
+      i = ok .inv;
+      me = me;
+      tin = tin;
+      mark = mark;
+      fails = fails;
+    }
+
 -- a refusal other than 8
 abbrev Other : Refusal → Type 0
 Other r = r ≡ Damaged → ⊥
@@ -118,19 +132,6 @@ module _ (m : Machine) (ok : Ok m) (me : ThreadNumber) (tin : me .0 < m .count) 
   few : m .count ≤ threadLimit
   few = good-count (m .count) (ok .good) .1
 
-  abbrev setting : Mark → Setting
-  setting mark =
-      record {
-        n = m .count;
-        s = lockOf m;
-        g = ok .ghost;
-        i = ok .inv;
-        me = me;
-        tin = tin;
-        mark = mark;
-        fails = fails;
-      }
-
   -- where the thread stands then
   place-stored : (j : ℕ) → j < threadLimit → (c : Change)
       → threadAt (wokenOf (storedOf m (me .0) j c) (c .woken)) (me .0) .place ≡ c .thread .place
@@ -149,7 +150,8 @@ module _ (m : Machine) (ok : Ok m) (me : ThreadNumber) (tin : me .0 < m .count) 
           (upd (threadAt m) (me .0) (c .thread)) (u .0) _ refl (λ j ne. refl) (me .0) ∙ own) (λ _. own)
 
   -- a rule that keeps the invariant, stored
-  landed-safe : (mark : Mark) (j : ℕ) → j < threadLimit → (st : Stepped) → Kept (setting mark) (suc j) st
+  landed-safe : (mark : Mark) (j : ℕ) → j < threadLimit → (st : Stepped)
+      → Kept (settingOf m ok me tin mark fails) (suc j) st
       → Safe m (ok .ghost) me (landedOf m (me .0) j st)
   landed-safe mark j l (To c) kept = record {
     ok = record {
@@ -178,6 +180,9 @@ module _ (m : Machine) (ok : Ok m) (me : ThreadNumber) (tin : me .0 < m .count) 
 
   -- the node that the step touches has a slot
   module _ (p : Place) (here : threadAt m (me .0) .place ≡ p) where
+    abbrev setting : Setting
+    setting = settingOf m ok me tin (markOf m (markedOf p)) fails
+
     has-slot : slotOf (touchedOf (accessOf me p) me) (m .count) ≡ Outside → ⊥
     has-slot e = by (touches (ok .inv) me p here)
       where
@@ -220,8 +225,8 @@ module _ (m : Machine) (ok : Ok m) (me : ThreadNumber) (tin : me .0 < m .count) 
         by (At j) e =
             let x = slot-at (touchedOf (accessOf me p) me) (m .count) j e in
             landed-safe _ j (omega (arith, few)) (advanceOf (viewAt m me j fails p) p)
-            (subst (λ k. Goes (setting (markOf m (markedOf p))) k (λ v. advanceOf v p)) (x .0 ∙ add-one j)
-            (kept-everywhere (setting (markOf m (markedOf p))) few p here (threadAt m (me .0) .token) fine marked))
+            (subst (λ k. Goes setting k (λ v. advanceOf v p)) (x .0 ∙ add-one j)
+            (kept-everywhere setting few p here (threadAt m (me .0) .token) fine marked))
 
     step-at-safe : Safe m (ok .ghost) me (stepAt m me fails p)
     step-at-safe = by (haltedOf (accessOf me p .kind) (threadAt m (me .0) .token) fails) refl
@@ -268,7 +273,7 @@ begin-safe m ok me tin call = pick-both (Safe m (ok .ghost) me) (isIdle (threadA
         ghost = ok .ghost;
         inv =
             rw (thread-stored m (me .0) (placedOf (threadAt m (me .0)) (firstPlace call)) within)
-            (kept-begin (ok .inv) (me .0) tin idle call may);
+            (kept-begin (settingOf m ok me tin Missing false) idle call may);
       };
       moved =
           subst (λ p. Went me (threadAt m (me .0) .place) (ok .ghost) p (ok .ghost)) (sym began-at)

@@ -35,6 +35,9 @@ pub record Plain (x : Word) : Type 0 where
   pub unowned : queueLocked x ≡ false
   pub plain : downgraded x ≡ false
 
+pub plain-free : Plain (word 0)
+plain-free = record { unqueued = refl; unowned = refl; plain = refl }
+
 -- of k readers, or with k = 0 the writer's
 pub record Readers (x : Word) : Type 0 where
   pub is : Plain x
