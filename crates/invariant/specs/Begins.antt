@@ -1,6 +1,5 @@
 -- Beginning a call keeps the invariant: the thread stands idle, and holds what the call's first place allows.
 -- Assumes nothing.
-use Prim.Native.Nat.{ℕ, _<_}
 use mathlib.Core.Bool.{true, false}
 use mathlib.Core.Path.{_≡_, refl, ap}
 use Rattle.state.specs.declared.holding.Holding.{Holding}
@@ -11,12 +10,10 @@ use Rattle.lock.specs.declared.code.Call.{Call}
 use Rattle.lock.specs.declared.code.Call.the-variants.{Read as ToRead, Write as ToWrite, TryRead, TryWrite, ReadUnlock}
 use Rattle.lock.specs.declared.code.Call.the-variants.{WriteUnlock, Downgrade}
 use Rattle.queue.specs.Tests.{never}
-use Rattle.queue.specs.Tickets.{Ghost}
-use Rattle.invariant.specs.Table.{any, offQueue, about, Lock, aboutAt, Free, Reads, Writes, Allowed}
+use Rattle.invariant.specs.Table.{any, offQueue, about, Free, Reads, Writes, Allowed}
 use Rattle.invariant.specs.Invariant.{Inv}
 use Rattle.invariant.specs.Moves.{isAside}
-use Rattle.invariant.specs.Frames.{moved}
-use Rattle.invariant.specs.Kept.{placed}
+use Rattle.invariant.specs.Kept.{Setting, mine, goneTo}
 use Rattle.invariant.specs.OffQueue.{OffQueue, off-queue, role-down, goes-off-queue}
 
 -- ── what a call asks for, its first place allows ──
@@ -58,16 +55,15 @@ first-allowed ToWrite h e = record { off = off-queue _ _ _ _; allowed = nothing-
 first-allowed TryRead h e = record { off = off-queue _ _ _ _; allowed = nothing-held h e; needs = refl; leaves = refl }
 first-allowed TryWrite h e = record { off = off-queue _ _ _ _; allowed = nothing-held h e; needs = refl; leaves = refl }
 first-allowed ReadUnlock h e = record { off = off-queue _ _ _ _; allowed = read-held h e; needs = refl; leaves = refl }
-first-allowed WriteUnlock h
-    e = record { off = off-queue _ _ _ _; allowed = write-held h e; needs = refl; leaves = refl }
+first-allowed WriteUnlock h e =
+    record { off = off-queue _ _ _ _; allowed = write-held h e; needs = refl; leaves = refl }
 first-allowed Downgrade h e = record { off = off-queue _ _ _ _; allowed = write-held h e; needs = refl; leaves = refl }
 
-pub kept-begin : {n : ℕ} {s : Lock} {g : Ghost} (i : Inv n s g) (t : ℕ) → t < n → s .th t .place ≡ Idle → (call : Call)
-    → mayBegin call (s .th t .holding) ≡ true
-    → Inv n (moved s t (s .word) (placed (s .th t) (firstPlace call)) (s .nd)) g
-kept-begin {s} i t tin here call e =
-    let f : FirstAllowed call (s .th t .holding) = first-allowed call (s .th t .holding) e in
-    let is : aboutAt s t ≡ offQueue any false false false = ap about here in
-    goes-off-queue i t tin (role-down i t (rw is (off-queue _ _ _ _))) (firstPlace call) (f .off) (f .allowed)
-    (never (f .needs))
-    (rw (f .leaves, is)) (rw is (never refl))
+pub kept-begin : (st : Setting) → mine st .place ≡ Idle → (call : Call) → mayBegin call (mine st .holding) ≡ true
+    → Inv (st .n) (goneTo st (firstPlace call) (st .s .nd)) (st .g)
+kept-begin st here call e =
+    let f : FirstAllowed call (mine st .holding) = first-allowed call (mine st .holding) e in
+    let is : about (mine st .place) ≡ offQueue any false false false = ap about here in
+    goes-off-queue st (role-down (st .i) (st .me .0) (rw is (off-queue _ _ _ _))) (firstPlace call) (f .off)
+    (f .allowed)
+    (never (f .needs)) (rw (f .leaves, is)) (rw is (never refl))

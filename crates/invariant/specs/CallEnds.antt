@@ -1,7 +1,7 @@
 -- The ways in which a call ends by a change of the word: with no queue; by a grant to a writer; with a queue that
 -- somebody owns.
 -- Assumes nothing.
-use Prim.Native.Nat.{ℕ, _+_, _*_, _<_}
+use Prim.Native.Nat.{_+_, _*_}
 use mathlib.Core.Bool.{Bool, true, false}
 use mathlib.Core.Path.{_≡_, refl, sym, ap, _∙_}
 use native.Mathlib.Omega.{arith}
@@ -11,22 +11,24 @@ use Rattle.word.specs.Laws.{ReadGranted, read-lock-granted, set-has, set-keeps,
 use Rattle.word.specs.Rules.{readLockOf}
 use Rattle.word.specs.declared.flags.Word.{Word}
 use Rattle.word.specs.declared.rules.ReadLocked.the-variants.{To}
-use Rattle.state.specs.Holding.{readsOf, writesOf, grantedRead, grantedWrite}
+use Rattle.state.specs.Holding.{grantedRead, grantedWrite}
 use Rattle.state.specs.declared.holding.Holding.{Holding}
 use Rattle.queue.specs.Tests.{never, not-true}
-use Rattle.queue.specs.Tickets.{Ghost}
-use Rattle.invariant.specs.Table.{Lock, Free, leaver}
+use Rattle.invariant.specs.Table.{Free, leaver}
 use Rattle.invariant.specs.Invariant.{readers, writers, leavers, Hold, Unqueued, empty, written, read, by-writer}
-use Rattle.invariant.specs.Invariant.{Inv}
+use Rattle.invariant.specs.Invariant.{CountedAs, HoldersAre}
 use Rattle.invariant.specs.OffQueue.{RoleDown, Ended}
-use Rattle.invariant.specs.Words.{Plain, word-is, readers-word, granted-word}
+use Rattle.invariant.specs.Words.{Plain, word-is, readers-word, granted-word, counts-bare}
+use Rattle.invariant.specs.Kept.{Setting, mine, became}
+use Rattle.invariant.specs.Frames.{Recount}
+use Rattle.state.specs.declared.place.Place.the-variants.{Idle}
 
-module _ {n : ℕ} {s : Lock} {g : Ghost} (i : Inv n s g) (t : ℕ) (tin : t < n) (o : RoleDown s g t) where
+module _ (st : Setting) (o : RoleDown (st .s) (st .g) (st .me .0)) where
+  open Setting st using (n, s, g, i, me, tin)
+
   -- an unqueued word becomes another
-  pub ended-bare : (w : Word) (h : Holding) → queued (s .word) ≡ false → Plain w →
-      ((r v l : ℕ) → r + readsOf (s .th t .holding) ≡ readers n s + readsOf h
-      → v + writesOf (s .th t .holding) ≡ writers n s + writesOf h → l + leaver (s .th t) ≡ leavers n s
-      → Unqueued w r v l) → Ended i t tin o w h
+  pub ended-bare : (w : Word) (h : Holding) → queued (s .word) ≡ false → Plain w
+      → Recount n s (mine st) (became (mine st) Idle h) (Unqueued w) → Ended st o w h
   ended-bare w h un p count = record {
     same-queue = p .unqueued ∙ sym un;
     same-owner = p .unowned ∙ sym (i .bare un .0);
@@ -34,23 +36,16 @@ module _ {n : ℕ} {s : Lock} {g : Ghost} (i : Inv n s g) (t : ℕ) (tin : t < n
     handed = λ e. never (p .unqueued) e;
     bare = λ e. p .plain;
     plain = λ u ne e. p .plain;
-    count =
-        λ r v l er ev el.
-        record {
-          bare = λ _. count r v l er ev el;
-          unlocked = λ e. never (p .unqueued) e;
-          handed = λ e. never (p .unqueued) e;
-          held = λ e. never (p .unqueued) e;
-        };
+    count = λ r v l er ev el. counts-bare p (count r v l er ev el);
     unreal = λ e. never (p .unqueued) e;
     seen-to = λ e. never (p .unqueued) e;
   }
 
   -- read_lock grants: one reader more
-  pub ended-read : Free (s .th t .holding) → leaver (s .th t) ≡ 0 → (to : Word) → readLockOf (s .word) ≡ To to
-      → Ended i t tin o to (grantedRead (s .th t .holding))
+  pub ended-read : Free (mine st .holding) → leaver (mine st) ≡ 0 → (to : Word) → readLockOf (s .word) ≡ To to
+      → Ended st o to (grantedRead (mine st .holding))
   ended-read h leaves to e =
-      ended-bare to (grantedRead (s .th t .holding)) (d .unqueued) (readers-word to (readers n s + 1) (x .0) .is)
+      ended-bare to (grantedRead (mine st .holding)) (d .unqueued) (readers-word to (readers n s + 1) (x .0) .is)
       (λ r v l er ev el.
       read (omega (arith, x)) (omega arith)
       (record { reads = refl; writes = omega (arith, x); leaves = omega (arith, x) }))
@@ -62,7 +57,7 @@ module _ {n : ℕ} {s : Lock} {g : Ghost} (i : Inv n s g) (t : ℕ) (tin : t < n
       x = granted-word (s .word) to (readers n s) (writers n s) (leavers n s) d (i .count .bare (d .unqueued))
 
   -- LOCKED is set for a writer
-  module _ (free : Free (s .th t .holding)) (leaves : leaver (s .th t) ≡ 0) (un : locked (s .word) ≡ false) where
+  module _ (free : Free (mine st .holding)) (leaves : leaver (mine st) ≡ 0) (un : locked (s .word) ≡ false) where
     plain-word : downgraded (s .word) ≡ false
     plain-word = by (queued (s .word)) refl
       where
@@ -73,21 +68,21 @@ module _ {n : ℕ} {s : Lock} {g : Ghost} (i : Inv n s g) (t : ℕ) (tin : t < n
     free-word : queued (s .word) ≡ false → s .word ≡ word 0
     free-word e = by (i .count .bare e)
       where
-        by : Unqueued (s .word) (readers n s) (writers n s) (leavers n s) → s .word ≡ word 0
+        by : CountedAs (Unqueued (s .word)) n s → s .word ≡ word 0
         by (empty z h) = word-is (s .word) 0 z
         by (written z h) = never un (readers-word (s .word) 0 z .locked)
         by (read z some h) = never un (readers-word (s .word) (readers n s) z .locked)
 
-    none-holds : Hold (readers n s) (writers n s) (leavers n s) 0 0 0
+    none-holds : HoldersAre n s 0 0 0
     none-holds = by (queued (s .word)) refl
       where
-        of : Unqueued (s .word) (readers n s) (writers n s) (leavers n s)
-            → Hold (readers n s) (writers n s) (leavers n s) 0 0 0
+        of : CountedAs (Unqueued (s .word)) n s
+            → HoldersAre n s 0 0 0
         of (empty z h) = h
         of (written z h) = never un (readers-word (s .word) 0 z .locked)
         of (read z some h) = never un (readers-word (s .word) (readers n s) z .locked)
 
-        by : (q : Bool) → queued (s .word) ≡ q → Hold (readers n s) (writers n s) (leavers n s) 0 0 0
+        by : (q : Bool) → queued (s .word) ≡ q → HoldersAre n s 0 0 0
         by true e = i .count .unlocked e un
         by false e = of (i .count .bare e)
 
@@ -100,7 +95,7 @@ module _ {n : ℕ} {s : Lock} {g : Ghost} (i : Inv n s g) (t : ℕ) (tin : t < n
     same-plain : downgraded (setLocked (s .word)) ≡ false
     same-plain = set-keeps LOCKED DOWNGRADED refl (s .word) ∙ plain-word
 
-    pub ended-written : Ended i t tin o (setLocked (s .word)) (grantedWrite (s .th t .holding))
+    pub ended-written : Ended st o (setLocked (s .word)) (grantedWrite (mine st .holding))
     ended-written = record {
       same-queue = same-queue;
       same-owner = set-keeps LOCKED QUEUE-LOCKED refl (s .word);

@@ -30,7 +30,7 @@ use Rattle.acquire.specs.LockContended.{contendJudged, contendLoadOf, contendCa
 use Rattle.acquire.specs.declared.lock_contended.Permitted.{Permitted}
 use Rattle.acquire.specs.declared.lock_contended.Permitted.the-variants.{To, Refused}
 use Rattle.lock.specs.Effect.{elsewhere, standOf}
-use Rattle.queue.specs.Tests.{never}
+use Rattle.queue.specs.Tests.{never, impossible}
 use Rattle.queue.specs.Updates.{upd, upd-same, upd-other, map-upd}
 use Rattle.queue.specs.Tickets.{waiting-apart}
 use Rattle.queue.specs.Roles.{none, ready}
@@ -54,8 +54,8 @@ refused-locked writer w r v l (empty z h) e =
     absurd (go writer (subst (λ x. permittedOf writer x ≡ Refused) (word-is w 0 z) e))
   where
     go : (writer : Bool) → permittedOf writer (word 0) ≡ Refused → ⊥
-    go true e = let z : _≡_ {A = ℕ} 0 1 = cc in omega arith
-    go false e = let z : _≡_ {A = ℕ} 0 1 = cc in omega arith
+    go true e = impossible (cc)
+    go false e = impossible (cc)
 refused-locked writer w r v l (written z h) e = readers-word w 0 z .locked
 refused-locked writer w r v l (read z some h) e = readers-word w r z .locked
 
@@ -159,7 +159,7 @@ module _ (st : Setting) (c : Contends st) where
       unlocked : (x : Word) → writeLockOf (s .word) ≡ WriteTo x → (locked (s .word) ≡ false) × (setLocked (s .word) ≡ x)
       unlocked x f =
           let y = pick-second (locked (s .word)) WriteRefused (WriteTo (setLocked (s .word))) (WriteTo x)
-          (λ z. let bad : _≡_ {A = ℕ} 0 1 = cc in omega arith) f in (y .0, cc (y .1))
+          (λ z. impossible (cc)) f in (y .0, cc (y .1))
 
       by : (r : WriteLocked) → writeLockOf (s .word) ≡ r → byWrite r ≡ To to
           → Inv n (movedTo st to (became (mine st) Idle (grantedWrite (mine st .holding)))) g
@@ -168,25 +168,25 @@ module _ (st : Setting) (c : Contends st) where
           subst (λ w. Inv n
           (movedTo st w (became (mine st) Idle (grantedWrite (mine st .holding)))) g)
           is
-          (ends-call i (me .0) tin (c .down) (setLocked (s .word)) _
-          (ended-written i (me .0) tin (c .down) (c .free) (c .leaves) (unlocked x f .0)))
-      by WriteRefused f z = absurd (let bad : _≡_ {A = ℕ} 0 1 = cc in omega arith)
+          (ends-call st (c .down) (setLocked (s .word)) _
+          (ended-written st (c .down) (c .free) (c .leaves) (unlocked x f .0)))
+      by WriteRefused f z = impossible (cc)
   kept-grant false to e = by (readLockOf (s .word)) refl e
     where
       by : (r : ReadLocked) → readLockOf (s .word) ≡ r → byRead r ≡ To to
           → Inv n (movedTo st to (became (mine st) Idle (grantedRead (mine st .holding)))) g
       by (ReadTo x) f z =
           let is : x ≡ to = cc z in
-          ends-call i (me .0) tin (c .down) to _
-          (ended-read i (me .0) tin (c .down) (c .free) (c .leaves) to (f ∙ ap ReadTo is))
-      by ReadRefused f z = absurd (let bad : _≡_ {A = ℕ} 0 1 = cc in omega arith)
+          ends-call st (c .down) to _
+          (ended-read st (c .down) (c .free) (c .leaves) to (f ∙ ap ReadTo is))
+      by ReadRefused f z = impossible (cc)
 
   module _ (writer : Bool) (reloads : ℕ) where
     on-to : (q : Place) → about q ≡ offQueue free false false true → standOf q ≡ elsewhere → isAside q ≡ false
         → Kept st (suc (me .0)) (stays (lookAt st (suc (me .0))) (at q))
     on-to q told away near =
         kept-still st (suc (me .0)) _ _ g (c .unmoved q away near)
-        (goes-off-queue i (me .0) tin (c .down) q (rw told (off-queue _ _ _ _)) (rw told (c .free))
+        (goes-off-queue st (c .down) q (rw told (off-queue _ _ _ _)) (rw told (c .free))
         (rw told (never refl)) (rw told (sym (c .leaves))) (λ _. rw told))
 
     pub kept-contend : Kept st (suc (me .0)) (contendJudged (lookAt st (suc (me .0))) writer reloads (s .word))
@@ -209,7 +209,7 @@ module _ (st : Setting) (c : Contends st) where
             (contend-elsewhere writer (reloads + 1) (s .word) .0) refl) (λ _. fill-bare e q))
 
 module _ (st : Setting) where
-  open Setting st using (n, s, g, i, me, tin)
+  open Setting st using (s, g, i, me)
 
   contends-off : (p : Place) → mine st .place ≡ p → about p ≡ offQueue free false false true
       → movesNoTicket p ≡ true → Contends st

@@ -29,18 +29,18 @@ use Rattle.queue.specs.Roles.{onQueue}
 use Rattle.queue.specs.Invariant as Q
 use Rattle.queue.specs.Taking
 use Rattle.invariant.specs.Table.{offQueue, writes, about, aboutAt, roleOf, Writes, leaver}
-use Rattle.invariant.specs.Invariant.{readers, writers, leavers, Hold, read, Newest, queueOf, Inv}
+use Rattle.invariant.specs.Invariant.{writers, leavers, read, Newest, queueOf, Inv, HoldersAre}
 use Rattle.invariant.specs.TableFacts.{row-facts}
 use Rattle.invariant.specs.Exclusion.{inside, unowned, reading, needs-some}
 use Rattle.invariant.specs.Moves.{downgrade-takes, downgrade-ends, downgrade-fails}
 use Rattle.invariant.specs.Kept.{lookAt, Kept, kept-still, Goes, Setting, mine, goneTo, kept-stood, movedTo}
-use Rattle.invariant.specs.Kept.{kept-compare}
+use Rattle.invariant.specs.Kept.{kept-compare, became}
 use Rattle.invariant.specs.OffQueue.{off-queue, RoleDown, role-down, goes-off-queue, Ended, ends-call}
 use Rattle.invariant.specs.CallEnds.{ended-bare}
 use Rattle.invariant.specs.Release.{writer-counts}
 use Rattle.invariant.specs.OneHolder.{one-holder, one-holder-bare, one-holder-locked}
 use Rattle.invariant.specs.Take.{takes-whole}
-use Rattle.invariant.specs.Words.{word-is}
+use Rattle.invariant.specs.Words.{word-is, readers-word}
 
 -- a thread that downgrades, q: whether it needs the queue to stay
 module _ (st : Setting) (needsQueue : Bool) (is : about (mine st .place) ≡ offQueue writes false needsQueue false) where
@@ -62,7 +62,7 @@ module _ (st : Setting) (needsQueue : Bool) (is : about (mine st .place) ≡ off
   some = writer-counts n s (me .0) tin holds
 
   -- it is the only holder
-  only : Hold (readers n s) (writers n s) (leavers n s) 0 1 0
+  only : HoldersAre n s 0 1 0
   only = record {
     reads = one-holder i some .0;
     writes = omega (arith, counts, one-holder i some .1);
@@ -74,10 +74,10 @@ module _ (st : Setting) (needsQueue : Bool) (is : about (mine st .place) ≡ off
 
   -- ── 1 to 17 ──
 
-  plainly : s .word .0 ≡ LOCKED → Ended i (me .0) tin down (word (SINGLE + LOCKED)) (downgradedTo (mine st .holding))
+  plainly : s .word .0 ≡ LOCKED → Ended st down (word (SINGLE + LOCKED)) (downgradedTo (mine st .holding))
   plainly e =
-      ended-bare i (me .0) tin down (word (SINGLE + LOCKED)) (downgradedTo (mine st .holding))
-      (ap queued (word-is (s .word) LOCKED e)) (record { unqueued = refl; unowned = refl; plain = refl })
+      ended-bare st down (word (SINGLE + LOCKED)) (downgradedTo (mine st .holding))
+      (ap queued (word-is (s .word) LOCKED e)) (readers-word (word (SINGLE + LOCKED)) 1 refl .is)
       (λ r v l er ev el. let one : r ≡ 1 = omega (arith, holds, only) in
       read (rw one refl) (omega arith)
       (record { reads = refl; writes = omega (arith, holds, only); leaves = omega (arith, only) }))
@@ -85,7 +85,7 @@ module _ (st : Setting) (needsQueue : Bool) (is : about (mine st .place) ≡ off
   -- ── DOWNGRADED, for the owner of the queue to see ──
 
   handed-over : queued (s .word) ≡ true → queueLocked (s .word) ≡ true
-      → Ended i (me .0) tin down (setDowngraded (s .word)) (downgradedTo (mine st .holding))
+      → Ended st down (setDowngraded (s .word)) (downgradedTo (mine st .holding))
   handed-over q l = record {
     same-queue = same-queue;
     same-owner = same-owner;
@@ -123,11 +123,7 @@ module _ (st : Setting) (needsQueue : Bool) (is : about (mine st .place) ≡ off
   -- ── a queue that nobody owns is taken whole ──
 
   abbrev next : Thread
-  next = record {
-    place = WalkTail Downgrade (s .word) (toNode (s .word));
-    token = mine st .token;
-    holding = downgradedTo (mine st .holding);
-  }
+  next = became (mine st) (WalkTail Downgrade (s .word) (toNode (s .word))) (downgradedTo (mine st .holding))
 
   alone : queueLocked (s .word) ≡ false → Q.Lonely (queueOf s) (me .0)
   alone l u ne = not-true (onQueue (roleOf (s .th) u)) (λ e. by (row-facts (s .th u .place) .stands e))
@@ -157,7 +153,7 @@ module _ (st : Setting) (needsQueue : Bool) (is : about (mine st .place) ≡ off
       → Inv n (movedTo st (word (SINGLE + LOCKED)) next) (took g (me .0))
   takes-all q l =
       let v : Newest g (s .word) = i .newest q in
-      takes-whole i (me .0) tin (word (SINGLE + LOCKED)) next (record { unqueued = refl; unowned = refl; plain = refl })
+      takes-whole st (word (SINGLE + LOCKED)) next (readers-word (word (SINGLE + LOCKED)) 1 refl .is)
       (record {
         queue =
             Taking.take-alone (i .queue) (me .0) (v .ticket) (ap (λ a. a .role) is) (alone l)
@@ -186,7 +182,7 @@ module _ (st : Setting) (needsQueue : Bool) (is : about (mine st .place) ≡ off
       by : (l : Bool) → queueLocked (s .word) ≡ l
           → Kept st k (writesTo (lookAt st k) (pick l (setDowngraded (s .word)) (word (SINGLE + LOCKED)))
           (downgradedTo (mine st .holding)) (pick l (end Done) (walkFrom Downgrade (s .word))))
-      by true l = kept-still st k _ _ g (downgrade-ends me g here) (ends-call i (me .0) tin down _ _ (handed-over q l))
+      by true l = kept-still st k _ _ g (downgrade-ends me g here) (ends-call st down _ _ (handed-over q l))
       by false l =
           kept-still st k _ _ (took g (me .0))
           (downgrade-takes me g here _ _ _ _ (record { none = rw is at (i .queue .know (me .0)); is = refl }))
@@ -200,13 +196,13 @@ module _ (st : Setting) (k : ℕ) where
       → queued (s .word) ≡ true
       → Inv n (goneTo st (DowngradeSlowCas (s .word)) (s .nd)) g
   slowly needsQueue is q =
-      goes-off-queue i (me .0) tin (down st needsQueue is) (DowngradeSlowCas (s .word)) (off-queue _ _ _ _)
+      goes-off-queue st (down st needsQueue is) (DowngradeSlowCas (s .word)) (off-queue _ _ _ _)
       (holds st needsQueue is) (λ _. q) (rw is) (rw is (never refl))
 
   pub kept-downgrade-cas : mine st .place ≡ DowngradeCas → Goes st k (λ v. downgradeCasOf v)
   kept-downgrade-cas here = pick-both (Kept st k) (eqb (s .word .0) LOCKED) _ _
       (λ e. kept-stood st k here refl _ _ refl
-      (ends-call i (me .0) tin _ _ _ (plainly st false (ap about here) (eqb-true (s .word .0) LOCKED e))))
+      (ends-call st _ _ _ (plainly st false (ap about here) (eqb-true (s .word .0) LOCKED e))))
       (λ e. kept-stood st k here refl _ _ refl
       (slowly false (ap about here)
       (not-false (queued (s .word))

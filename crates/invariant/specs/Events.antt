@@ -51,7 +51,7 @@ use Rattle.lock.specs.declared.code.Code.{Code}
 use Rattle.lock.specs.declared.code.Code.the-variants.{Begin, Step, Fail, Unknown}
 use Rattle.lock.specs.Still.{idle-is, still-queue}
 use Rattle.lock.specs.Stored.{woken-count, woken-nodes, woken-long}
-use Rattle.queue.specs.Tests.{never}
+use Rattle.queue.specs.Tests.{never, impossible}
 use Rattle.queue.specs.Updates.{upd, upd-same, upd-cases}
 use Rattle.queue.specs.Tickets.{Ghost}
 use Rattle.invariant.specs.Invariant.{Inv}
@@ -76,21 +76,34 @@ pub record Safe (m : Machine) (g : Ghost) (me : ThreadNumber) (o : Outcome) : Ty
   pub moved : Went me (threadAt m (me .0) .place) g (threadAt (o .machine) (me .0) .place) (ok .ghost)
   pub not-eight : o .reply ≡ RefusedBy Damaged → ⊥
 
+-- a step or a begin of its thread me, with the mark that it finds and whether its compare is made to fail
+abbrev settingOf : (m : Machine) → Ok m → (me : ThreadNumber) → me .0 < m .count → Mark → Bool → Setting
+settingOf m ok me tin mark fails =
+    record {
+      n = m .count;
+      s = lockOf m;
+      g = ok .ghost;
+      i = ok .inv;
+      me = me;
+      tin = tin;
+      mark = mark;
+      fails = fails;
+    }
+
 -- a refusal other than 8
 abbrev Other : Refusal → Type 0
 Other r = r ≡ Damaged → ⊥
 
 refused-safe : (m : Machine) (ok : Ok m) (me : ThreadNumber) (r : Refusal) → Other r
     → Safe m (ok .ghost) me (refusedOf m r)
-refused-safe m ok me r
-    other = record {
-      ok = ok;
-      moved = subst
-          (λ e. Moved e (ok .ghost) (me .0) (ok .ghost)
-          × AsideAfter e (isAside (threadAt m (me .0) .place)) (isAside (threadAt m (me .0) .place)))
-          (sym (still-queue me (threadAt m (me .0) .place))) (refl, refl);
-      not-eight = λ e. other (cc e);
-    }
+refused-safe m ok me r other = record {
+  ok = ok;
+  moved = subst
+      (λ e. Moved e (ok .ghost) (me .0) (ok .ghost)
+      × AsideAfter e (isAside (threadAt m (me .0) .place)) (isAside (threadAt m (me .0) .place)))
+      (sym (still-queue me (threadAt m (me .0) .place))) (refl, refl);
+  not-eight = λ e. other (cc e);
+}
 
 -- ── a step ──
 
@@ -99,15 +112,15 @@ halted-other : (k : Kind) (token fails : Bool) (r : Refusal) → haltedOf k toke
 halted-other k token fails r e z = by k token fails (subst (λ x. haltedOf k token fails ≡ Refused x) z e)
   where
     failing : (fails : Bool) → failingOf fails ≡ Refused Damaged → ⊥
-    failing true f = let bad : _≡_ {A = ℕ} 0 1 = cc in omega arith
-    failing false f = let bad : _≡_ {A = ℕ} 0 1 = cc in omega arith
+    failing true f = impossible (cc)
+    failing false f = impossible (cc)
 
     by : (k : Kind) (token fails : Bool) → haltedOf k token fails ≡ Refused Damaged → ⊥
-    by Nothing token fails f = let bad : _≡_ {A = ℕ} 0 1 = cc in omega arith
-    by Park token true f = let bad : _≡_ {A = ℕ} 0 1 = cc in omega arith
-    by Park true false f = let bad : _≡_ {A = ℕ} 0 1 = cc in omega arith
-    by Park false false f = let bad : _≡_ {A = ℕ} 0 1 = cc in omega arith
-    by WeakCompare token fails f = let bad : _≡_ {A = ℕ} 0 1 = cc in omega arith
+    by Nothing token fails f = impossible (cc)
+    by Park token true f = impossible (cc)
+    by Park true false f = impossible (cc)
+    by Park false false f = impossible (cc)
+    by WeakCompare token fails f = impossible (cc)
     by Load token fails f = failing fails f
     by Store token fails f = failing fails f
     by StrongCompare token fails f = failing fails f
@@ -118,19 +131,6 @@ halted-other k token fails r e z = by k token fails (subst (λ x. haltedOf k tok
 module _ (m : Machine) (ok : Ok m) (me : ThreadNumber) (tin : me .0 < m .count) (fails : Bool) where
   few : m .count ≤ threadLimit
   few = good-count (m .count) (ok .good) .1
-
-  abbrev setting : Mark → Setting
-  setting mark =
-      record {
-        n = m .count;
-        s = lockOf m;
-        g = ok .ghost;
-        i = ok .inv;
-        me = me;
-        tin = tin;
-        mark = mark;
-        fails = fails;
-      }
 
   -- where the thread stands then
   place-stored : (j : ℕ) → j < threadLimit → (c : Change)
@@ -150,7 +150,8 @@ module _ (m : Machine) (ok : Ok m) (me : ThreadNumber) (tin : me .0 < m .count) 
           (upd (threadAt m) (me .0) (c .thread)) (u .0) _ refl (λ j ne. refl) (me .0) ∙ own) (λ _. own)
 
   -- a rule that keeps the invariant, stored
-  landed-safe : (mark : Mark) (j : ℕ) → j < threadLimit → (st : Stepped) → Kept (setting mark) (suc j) st
+  landed-safe : (mark : Mark) (j : ℕ) → j < threadLimit → (st : Stepped)
+      → Kept (settingOf m ok me tin mark fails) (suc j) st
       → Safe m (ok .ghost) me (landedOf m (me .0) j st)
   landed-safe mark j l (To c) kept = record {
     ok = record {
@@ -173,17 +174,20 @@ module _ (m : Machine) (ok : Ok m) (me : ThreadNumber) (tin : me .0 < m .count) 
     moved =
         subst (λ p. Went me (threadAt m (me .0) .place) (ok .ghost) p (kept .0)) (sym (place-stored j l c))
         (kept .2);
-    not-eight = λ e. let bad : _≡_ {A = ℕ} 0 1 = cc in omega arith;
+    not-eight = λ e. impossible (cc);
   }
   landed-safe mark j l (Denied r) kept = absurd kept
 
   -- the node that the step touches has a slot
   module _ (p : Place) (here : threadAt m (me .0) .place ≡ p) where
+    abbrev setting : Setting
+    setting = settingOf m ok me tin (markOf m (markedOf p)) fails
+
     has-slot : slotOf (touchedOf (accessOf me p) me) (m .count) ≡ Outside → ⊥
     has-slot e = by (touches (ok .inv) me p here)
       where
         differ : (j : ℕ) → slotOf (touchedOf (accessOf me p) me) (m .count) ≡ At j → ⊥
-        differ j f = let bad : _≡_ {A = ℕ} 0 1 = cc in omega arith
+        differ j f = impossible (cc)
 
         by : (touchedOf (accessOf me p) me .0 ≡ me .0 + 1) ⊎ WaitingNode (ok .inv) (touchedOf (accessOf me p) me .0) → ⊥
         by (inl z) =
@@ -193,8 +197,8 @@ module _ (m : Machine) (ok : Ok m) (me : ThreadNumber) (tin : me .0 < m .count) 
             (pick-no (ltb (m .count) (touchedOf (accessOf me p) me .0)) _ Outside _
             (le-ltb (m .count) (touchedOf (accessOf me p) me .0) (omega arith)) refl)))
         by (inr w) =
-            let x : (j : ℕ) × (slotOf (touchedOf (accessOf me p) me) (m .count) ≡ At j) =
-            slot-waiting (ok .inv) (touchedOf (accessOf me p) me) w in differ (x .0) (x .1)
+            let x = slot-waiting (ok .inv) (touchedOf (accessOf me p) me) w in
+            differ (x .0) (x .1)
 
     -- and the tail that a walk found its writer mark
     marked : (k : Walk) (seen : Word) (tail : NodeNumber) → p ≡ WalkHead k seen tail
@@ -205,8 +209,8 @@ module _ (m : Machine) (ok : Ok m) (me : ThreadNumber) (tin : me .0 < m .count) 
         (found (slot-marked (ok .inv) (me .0) k seen tail (here ∙ is)))
       where
         mark : (writer : Bool) → pick writer Writer Reader ≡ Missing → ⊥
-        mark true e = let bad : _≡_ {A = ℕ} 0 1 = cc in omega arith
-        mark false e = let bad : _≡_ {A = ℕ} 0 1 = cc in omega arith
+        mark true e = impossible (cc)
+        mark false e = impossible (cc)
 
         found : (j : ℕ) × (slotOf tail (m .count) ≡ At j) → markOf m tail ≡ Missing → ⊥
         found x = subst (λ (z : Slot). markBy m z ≡ Missing → ⊥) (sym (x .1)) (mark (nodeAt m (x .0) .writer))
@@ -219,11 +223,10 @@ module _ (m : Machine) (ok : Ok m) (me : ThreadNumber) (tin : me .0 < m .count) 
             → Safe m (ok .ghost) me (touchingBy m me fails p z)
         by Outside e = absurd (has-slot e)
         by (At j) e =
-            let x : (touchedOf (accessOf me p) me .0 ≡ j + 1)
-            × (j < m .count) = slot-at (touchedOf (accessOf me p) me) (m .count) j e in
+            let x = slot-at (touchedOf (accessOf me p) me) (m .count) j e in
             landed-safe _ j (omega (arith, few)) (advanceOf (viewAt m me j fails p) p)
-            (subst (λ k. Goes (setting (markOf m (markedOf p))) k (λ v. advanceOf v p)) (x .0 ∙ add-one j)
-            (kept-everywhere (setting (markOf m (markedOf p))) few p here (threadAt m (me .0) .token) fine marked))
+            (subst (λ k. Goes setting k (λ v. advanceOf v p)) (x .0 ∙ add-one j)
+            (kept-everywhere setting few p here (threadAt m (me .0) .token) fine marked))
 
     step-at-safe : Safe m (ok .ghost) me (stepAt m me fails p)
     step-at-safe = by (haltedOf (accessOf me p .kind) (threadAt m (me .0) .token) fails) refl
@@ -245,8 +248,8 @@ begin-safe : (m : Machine) (ok : Ok m) (me : ThreadNumber) → me .0 < m .count 
 begin-safe m ok me tin call = pick-both (Safe m (ok .ghost) me) (isIdle (threadAt m (me .0) .place)) _ _
     (λ idle. pick-both (Safe m (ok .ghost) me) (mayBegin call (threadAt m (me .0) .holding)) _ _
     (λ may. began (idle-is (threadAt m (me .0) .place) idle) may)
-    (λ _. refused-safe m ok me WrongHolding (λ e. let bad : _≡_ {A = ℕ} 0 1 = cc in omega arith)))
-    (λ _. refused-safe m ok me InsideCall (λ e. let bad : _≡_ {A = ℕ} 0 1 = cc in omega arith))
+    (λ _. refused-safe m ok me WrongHolding (λ e. impossible (cc))))
+    (λ _. refused-safe m ok me InsideCall (λ e. impossible (cc)))
   where
     within : me .0 < length (m .threads)
     within = omega (arith, good-count (m .count) (ok .good) .1, ok .sized .threads)
@@ -270,12 +273,12 @@ begin-safe m ok me tin call = pick-both (Safe m (ok .ghost) me) (isIdle (threadA
         ghost = ok .ghost;
         inv =
             rw (thread-stored m (me .0) (placedOf (threadAt m (me .0)) (firstPlace call)) within)
-            (kept-begin (ok .inv) (me .0) tin idle call may);
+            (kept-begin (settingOf m ok me tin Missing false) idle call may);
       };
       moved =
           subst (λ p. Went me (threadAt m (me .0) .place) (ok .ghost) p (ok .ghost)) (sym began-at)
           (stood me (ok .ghost) idle refl (firstPlace call) (first-not-aside call));
-      not-eight = λ e. let bad : _≡_ {A = ℕ} 0 1 = cc in omega arith;
+      not-eight = λ e. impossible (cc);
     }
 
 -- ── an event ──
@@ -285,10 +288,10 @@ module _ (m : Machine) (ok : Ok m) (me : ThreadNumber) where
   below e = leb-false (m .count) (me .0) e
 
   no-thread : Safe m (ok .ghost) me (refusedOf m NoThread)
-  no-thread = refused-safe m ok me NoThread (λ e. let bad : _≡_ {A = ℕ} 0 1 = cc in omega arith)
+  no-thread = refused-safe m ok me NoThread (λ e. impossible (cc))
 
   by-code : (c : Code) → Safe m (ok .ghost) me (eventBy m c me)
-  by-code Unknown = refused-safe m ok me UnknownCode (λ e. let bad : _≡_ {A = ℕ} 0 1 = cc in omega arith)
+  by-code Unknown = refused-safe m ok me UnknownCode (λ e. impossible (cc))
   by-code (Begin call) = pick-both (Safe m (ok .ghost) me) (leb (m .count) (me .0)) _ _ (λ _. no-thread)
       (λ e. begin-safe m ok me (below e) call)
   by-code Step = pick-both (Safe m (ok .ghost) me) (leb (m .count) (me .0)) _ _ (λ _. no-thread)

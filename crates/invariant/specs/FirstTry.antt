@@ -46,7 +46,7 @@ module _ (st : Setting) (k : ℕ) where
         → about q .leaves ≡ false
         → Inv n (goneTo st q (s .nd)) g
     on-to q o a needs leaves =
-        goes-off-queue i (me .0) tin is-first q o a (never needs) (rw (leaves, told)) (rw told (never refl))
+        goes-off-queue st is-first q o a (never needs) (rw (leaves, told)) (rw told (never refl))
 
     judged : (blocking : Bool) (r : ReadLocked) → Kept st k (tryReadBy (lookAt st k) blocking (s .word) r)
     judged blocking (To to) =
@@ -76,8 +76,8 @@ module _ (st : Setting) (k : ℕ) where
       by : s .word ≡ seen → (r : ReadLocked) → readLockOf seen ≡ r → Kept st k (tryReadCasBy (lookAt st k) blocking r)
       by same (To to) e =
           at-end (TryReadCas blocking seen) here refl blocking to _
-          (ends-call i (me .0) tin _ to _
-          (ended-read i (me .0) tin (is-first (TryReadCas blocking seen) here refl refl)
+          (ends-call st _ to _
+          (ended-read st (is-first (TryReadCas blocking seen) here refl refl)
           (nothing (TryReadCas blocking seen) here refl refl) (no-leaver (TryReadCas blocking seen) here refl refl)
           to (ap readLockOf same ∙ e)))
       by same Refused e = again
@@ -86,8 +86,8 @@ module _ (st : Setting) (k : ℕ) where
       → Goes st k (λ v. tryWriteOrOf v blocking)
   kept-try-write-or blocking here = pick-both (Kept st k) (locked (s .word)) _ _ (λ e. held blocking)
       (λ e. at-end (TryWriteOr blocking) here refl blocking _ _
-      (ends-call i (me .0) tin _ _ _
-      (ended-written i (me .0) tin (is-first (TryWriteOr blocking) here refl refl)
+      (ends-call st _ _ _
+      (ended-written st (is-first (TryWriteOr blocking) here refl refl)
       (nothing (TryWriteOr blocking) here refl refl) (no-leaver (TryWriteOr blocking) here refl refl) e)))
     where
       held : (b : Bool) → Kept st k (stays (lookAt st k) (tryWriteRefused b))

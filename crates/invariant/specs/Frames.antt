@@ -32,8 +32,8 @@ moved s t w x nd = record { word = w; th = upd (s .th) t x; nd = nd }
 module _ (s : Lock) (t : ℕ) (x : Thread) (nd : ℕ → Node) where
   -- which nodes wait then
   pub waits-as : (wait : ℕ → Bool) → false ≡ wait 0
-      → pick (about (x .place) .registered) (not (nd (suc t) .completed)) false ≡ wait (suc t) →
-      ((u : ℕ) → u ≢ t → pick (aboutAt s u .registered) (not (nd (suc u) .completed)) false ≡ wait (suc u))
+      → pick (about (x .place) .registered) (not (nd (suc t) .completed)) false ≡ wait (suc t)
+      → ((u : ℕ) → u ≢ t → pick (aboutAt s u .registered) (not (nd (suc u) .completed)) false ≡ wait (suc u))
       → waitOf (upd (s .th) t x) nd ≡ wait
   waits-as wait none own others = fun-ext λ k. at k
     where
@@ -72,6 +72,12 @@ pub same-newest : {g : Ghost} {w : Word} (w′ : Word) → toNode w′ ≡ toNod
 same-newest w′ same v =
     record { ticket = v .ticket; last = v .last; some = v .some; node = v .node ∙ ap (λ z. z .0) (sym same) }
 
+-- the holders counted anew, r readers, v writers and l leavers, after thread x became y
+abbrev pub Recount : ℕ → Lock → Thread → Thread → (ℕ → ℕ → ℕ → Type 0) → Type 0
+Recount n s x y P =
+    (r v l : ℕ) → r + readsOf (x .holding) ≡ readers n s + readsOf (y .holding)
+    → v + writesOf (x .holding) ≡ writers n s + writesOf (y .holding) → l + leaver x ≡ leavers n s + leaver y → P r v l
+
 -- ── the word changes ──
 
 module _ {n : ℕ} {s : Lock} {g : Ghost} (i : Inv n s g) (g′ : Ghost) (t : ℕ) (w : Word) (x : Thread)
@@ -86,9 +92,7 @@ module _ {n : ℕ} {s : Lock} {g : Ghost} (i : Inv n s g) (g′ : Ghost) (t : �
     pub owner : weight (about (x .place) .owner) + weight (queueLocked (s .word))
         ≡ weight (aboutAt s t .owner) + weight (queueLocked w)
     pub may : Allowed (about (x .place) .may) (x .holding)
-    pub count : (r v l : ℕ) → r + readsOf (s .th t .holding) ≡ readers n s + readsOf (x .holding)
-        → v + writesOf (s .th t .holding) ≡ writers n s + writesOf (x .holding)
-        → l + leaver (s .th t) ≡ leavers n s + leaver x → Count w r v l
+    pub count : Recount n s (s .th t) x (Count w)
     pub needs : about (x .place) .needsQueue ≡ true → queued w ≡ true
     pub needs-all : (u : ℕ) → u ≢ t → aboutAt s u .needsQueue ≡ true → queued w ≡ true
     pub plain : about (x .place) .reader ≡ true → downgraded w ≡ false
@@ -191,10 +195,7 @@ module _ {n : ℕ} {s : Lock} {g : Ghost} (i : Inv n s g) (g′ : Ghost) (t : �
     seen-to = λ a b d. let y : (u : ℕ) × Responsible s g u = i .seen-to a b d in c .seen-to d (y .0) (y .1);
   })
     where
-      same-count : (r v l : ℕ) → r + readsOf (s .th t .holding) ≡ readers n s + readsOf (s .th t .holding)
-          → v + writesOf (s .th t .holding) ≡ writers n s + writesOf (s .th t .holding)
-          → l + leaver (s .th t) ≡ leavers n s + leaver (s .th t)
-          → Count (s .word) r v l
+      same-count : Recount n s (s .th t) (s .th t) (Count (s .word))
       same-count r v l er ev el =
           let e : r ≡ readers n s = omega arith in
           let f : v ≡ writers n s = omega arith in

@@ -26,11 +26,18 @@ writers n s = sum n (λ t. writesOf (s .th t .holding))
 abbrev pub leavers : ℕ → Lock → ℕ
 leavers n s = sum n (λ t. leaver (s .th t))
 
+-- the three of a lock of n threads
+abbrev pub CountedAs : (ℕ → ℕ → ℕ → Type 0) → ℕ → Lock → Type 0
+CountedAs P n s = P (readers n s) (writers n s) (leavers n s)
+
 -- r readers, w writers and l leavers, by number
 pub record Hold (r w l r′ w′ l′ : ℕ) : Type 0 where
   pub reads : r ≡ r′
   pub writes : w ≡ w′
   pub leaves : l ≡ l′
+
+abbrev pub HoldersAre : ℕ → Lock → ℕ → ℕ → ℕ → Type 0
+HoldersAre n s r w l = Hold (readers n s) (writers n s) (leavers n s) r w l
 
 -- an unqueued word: nobody's, the writer's, the readers'
 pub data Unqueued (x : Word) (r w l : ℕ) : Type 0 where
@@ -90,7 +97,7 @@ pub record Inv (n : ℕ) (s : Lock) (g : Ghost) : Type 0 where
   pub holding : (t : ℕ) → Allowed (aboutAt s t .may) (s .th t .holding)
   pub outside : (t : ℕ) → n ≤ t → s .th t .place ≡ Idle
   pub unheld : (t : ℕ) → n ≤ t → Free (s .th t .holding)
-  pub count : Count (s .word) (readers n s) (writers n s) (leavers n s)
+  pub count : CountedAs (Count (s .word)) n s
   -- who is about to release or to downgrade slowly needs the queue to stay; while a contended reader walks, no
   -- downgrade is pending
   pub needs : (t : ℕ) → aboutAt s t .needsQueue ≡ true → queued (s .word) ≡ true

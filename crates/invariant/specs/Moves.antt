@@ -16,6 +16,8 @@ use Rattle.lock.specs.Effect.{QueueEffect, stands, registers, setsAside, restor
 use Rattle.lock.specs.Effect.{elsewhere, standOf, queueEffect}
 use Rattle.queue.specs.Tests.{never}
 use Rattle.queue.specs.Tickets.{Ghost, registered, asided, restored, took, completed}
+use Rattle.queue.specs.Roles.{asideRole}
+use Rattle.invariant.specs.Table.{about}
 
 -- ── the moves ──
 
@@ -65,36 +67,9 @@ Moved (takesTail k) g t g′ = TakesTail g t (k .0) g′
 Moved takesAll g t g′ = TakesAll g t g′
 Moved (completes k) g t g′ = Completes g t (k .0) g′
 
--- from the store of prev in the head until the compare succeeds or the old tail is restored, what is held is set aside
+-- what a thread at that place holds is set aside
 abbrev pub isAside : Place → Bool
-isAside At.Idle = false
-isAside (At.TryReadLoad _) = false
-isAside (At.TryReadCas _ _) = false
-isAside (At.TryWriteOr _) = false
-isAside (At.ContendLoad _ _) = false
-isAside (At.ContendCas _ _ _) = false
-isAside (At.RegisterCas _ _ _) = false
-isAside (At.CompletedLoad _) = false
-isAside (At.Park _) = false
-isAside (At.WalkTail _ _ _) = false
-isAside (At.WalkNext _ _ _) = false
-isAside (At.WalkPrev _ _ _ _) = false
-isAside (At.WalkHead _ _ _) = false
-isAside (At.QueueCas _ _) = false
-isAside (At.SplitPrev _ _ _) = false
-isAside (At.SplitStore _ _ _ _) = false
-isAside (At.SplitCas _ _ _) = true
-isAside (At.SplitRestore _ _ _ _) = true
-isAside (At.TakeCas _ _ _) = false
-isAside (At.WakePrev _ _) = false
-isAside (At.WakeStore _ _ _) = false
-isAside At.ReadUnlockLoad = false
-isAside (At.ReadUnlockCas _) = false
-isAside (At.Subtract _ _) = false
-isAside At.WriteUnlockCas = false
-isAside (At.ReleaseCas _) = false
-isAside At.DowngradeCas = false
-isAside (At.DowngradeSlowCas _) = false
+isAside p = asideRole (about p .role)
 
 -- whether what thread t holds is set aside, before and after
 abbrev pub AsideAfter : QueueEffect → Bool → Bool → Type 0

@@ -44,50 +44,47 @@ pub record Alike (a b : About) : Type 0 where
 
 pub alike-walk : (k : Walk) (seen seen′ : Word) (r r′ : Role) → filled r′ ≡ false
     → Alike (walking k seen r) (walking k seen′ r′)
-alike-walk k seen seen′ r r′
-    f = record {
-      unfilled = f;
-      owner = refl;
-      reader = refl;
-      registered = refl;
-      asleep = refl;
-      may = λ h a. a;
-      ok = refl;
-      leaves = refl;
-      needsQueue = refl;
-      contends = refl;
-    }
+alike-walk k seen seen′ r r′ f = record {
+  unfilled = f;
+  owner = refl;
+  reader = refl;
+  registered = refl;
+  asleep = refl;
+  may = λ h a. a;
+  ok = refl;
+  leaves = refl;
+  needsQueue = refl;
+  contends = refl;
+}
 
 pub alike-own : (who : Who) (seen seen′ : Word) (r r′ : Role) (ok ok′ : Bool) → filled r′ ≡ false → ok′ ≡ true
     → Alike (owning who seen r ok) (owning who seen′ r′ ok′)
-alike-own who seen seen′ r r′ ok ok′ f
-    e = record {
-      unfilled = f;
-      owner = refl;
-      reader = refl;
-      registered = refl;
-      asleep = refl;
-      may = λ h a. a;
-      ok = e;
-      leaves = refl;
-      needsQueue = refl;
-      contends = refl;
-    }
+alike-own who seen seen′ r r′ ok ok′ f e = record {
+  unfilled = f;
+  owner = refl;
+  reader = refl;
+  registered = refl;
+  asleep = refl;
+  may = λ h a. a;
+  ok = e;
+  leaves = refl;
+  needsQueue = refl;
+  contends = refl;
+}
 
 pub alike-wake : (who : Who) (r r′ : Role) → filled r′ ≡ false → Alike (waking who r) (waking who r′)
-alike-wake who r r′
-    f = record {
-      unfilled = f;
-      owner = refl;
-      reader = refl;
-      registered = refl;
-      asleep = refl;
-      may = λ h a. a;
-      ok = refl;
-      leaves = refl;
-      needsQueue = refl;
-      contends = refl;
-    }
+alike-wake who r r′ f = record {
+  unfilled = f;
+  owner = refl;
+  reader = refl;
+  registered = refl;
+  asleep = refl;
+  may = λ h a. a;
+  ok = refl;
+  leaves = refl;
+  needsQueue = refl;
+  contends = refl;
+}
 
 -- ── a store of a link changes neither completed nor next ──
 
@@ -131,8 +128,7 @@ module _ (st : Setting) (p : Place) (a : Alike (about (mine st .place)) (about p
   pub waits-alike : waitOf (upd (s .th) (me .0) (placed (mine st) p)) nd ≡ waitOf (s .th) (s .nd)
   waits-alike =
       waits-as s (me .0) (placed (mine st) p) nd (waitOf (s .th) (s .nd)) refl
-      (rw (a .registered, k .completed (suc (me .0))))
-      (λ u ne. rw (k .completed (suc u)))
+      (rw (a .registered, k .completed (suc (me .0)))) (λ u ne. rw (k .completed (suc u)))
 
   -- the queue's step is the lock's
   pub seen-as : (g′ : Ghost) (w : Word) → Q.Inv g′ (Q.relinked (queueOf s) (me .0) l (about p .role))

@@ -9,14 +9,14 @@ use Rattle.queue.specs.Tests.{not-true, not-false}
 use Rattle.queue.specs.Tickets.{Ghost}
 use Rattle.invariant.specs.Table.{Lock}
 use Rattle.invariant.specs.Invariant.{readers, writers, leavers, Unqueued, empty, written, read, Locked}
-use Rattle.invariant.specs.Invariant.{by-writer, by-readers, by-leaver, Inv}
+use Rattle.invariant.specs.Invariant.{by-writer, by-readers, by-leaver, Inv, CountedAs}
 
 module _ {n : ℕ} {s : Lock} {g : Ghost} (i : Inv n s g) (some : 1 ≤ writers n s + leavers n s) where
   pub one-holder-bare : queued (s .word) ≡ false
       → (s .word .0 ≡ LOCKED) × (readers n s ≡ 0) × (writers n s ≡ 1) × (leavers n s ≡ 0)
   one-holder-bare q = by (i .count .bare q)
     where
-      by : Unqueued (s .word) (readers n s) (writers n s) (leavers n s)
+      by : CountedAs (Unqueued (s .word)) n s
           → (s .word .0 ≡ LOCKED) × (readers n s ≡ 0) × (writers n s ≡ 1) × (leavers n s ≡ 0)
       by (empty z h) = absurd (omega (arith, h .writes, h .leaves))
       by (written z h) = (z, h .reads, h .writes, h .leaves)
@@ -39,7 +39,7 @@ module _ {n : ℕ} {s : Lock} {g : Ghost} (i : Inv n s g) (some : 1 ≤ writers 
   pub one-holder : (readers n s ≡ 0) × (writers n s + leavers n s ≡ 1)
   one-holder = by (queued (s .word)) refl
     where
-      of : Locked (readers n s) (writers n s) (leavers n s) → (readers n s ≡ 0) × (writers n s + leavers n s ≡ 1)
+      of : CountedAs Locked n s → (readers n s ≡ 0) × (writers n s + leavers n s ≡ 1)
       of (by-writer h) = (h .reads, omega (arith, h .writes, h .leaves))
       of (by-readers r h) = absurd (omega (arith, h .writes, h .leaves))
       of (by-leaver h) = (h .reads, omega (arith, h .writes, h .leaves))

@@ -24,14 +24,14 @@ use Rattle.queue.specs.Sums.{sum-le}
 use Rattle.queue.specs.Roles.{walk, looks}
 use Rattle.queue.specs.Invariant as Q
 use Rattle.invariant.specs.Table.{offQueue, reads, about, aboutAt, Reads, leaver}
-use Rattle.invariant.specs.Invariant.{readers, writers, leavers, Hold, Unqueued, empty, written, read, queueOf}
-use Rattle.invariant.specs.Invariant.{Inv}
+use Rattle.invariant.specs.Invariant.{readers, writers, leavers, Unqueued, empty, written, read, queueOf, Inv}
+use Rattle.invariant.specs.Invariant.{CountedAs, HoldersAre}
 use Rattle.invariant.specs.Frames.{stay, viewed-still}
 use Rattle.invariant.specs.Moves.{movesNoTicket}
 use Rattle.invariant.specs.Kept.{lookAt, Kept, placed, Goes, Setting, mine, goneTo, kept-stood, kept-compare}
 use Rattle.invariant.specs.OffQueue.{off-queue, RoleDown, role-down, goes-off-queue, Ended, ends-call}
 use Rattle.invariant.specs.CallEnds.{ended-bare}
-use Rattle.invariant.specs.Words.{Plain, word-is, readers-word, fewer-word}
+use Rattle.invariant.specs.Words.{Plain, word-is, readers-word, fewer-word, plain-free}
 use Rattle.invariant.specs.OnQueue.{begun-at}
 
 module _ (st : Setting) (k : ℕ) (p : Place) (here : mine st .place ≡ p)
@@ -58,7 +58,7 @@ module _ (st : Setting) (k : ℕ) (p : Place) (here : mine st .place ≡ p)
       → (s .word .0 ≡ SINGLE * readers n s + LOCKED) × (writers n s ≡ 0) × (leavers n s ≡ 0)
   counted q = by (i .count .bare q)
     where
-      by : Unqueued (s .word) (readers n s) (writers n s) (leavers n s)
+      by : CountedAs (Unqueued (s .word)) n s
           → (s .word .0 ≡ SINGLE * readers n s + LOCKED) × (writers n s ≡ 0) × (leavers n s ≡ 0)
       by (empty z h) = absurd (omega (arith, some, h .reads))
       by (written z h) = absurd (omega (arith, some, h .reads))
@@ -102,11 +102,11 @@ module _ (st : Setting) (k : ℕ) (p : Place) (here : mine st .place ≡ p)
     where
       on : Inv n (goneTo st (ReadUnlockCas (s .word)) (s .nd)) g
       on =
-          goes-off-queue i (me .0) tin down (ReadUnlockCas (s .word)) (off-queue _ _ _ _) holds (never refl) (sym left)
+          goes-off-queue st down (ReadUnlockCas (s .word)) (off-queue _ _ _ _) holds (never refl) (sym left)
           (rw is (never refl))
 
-      by : (q d b : Bool) → queued (s .word) ≡ q → downgraded (s .word) ≡ d → ltb (s .word .0) (SINGLE + LOCKED) ≡ b →
-          Kept st k (readUnlockBy (lookAt st k) (s .word)
+      by : (q d b : Bool) → queued (s .word) ≡ q → downgraded (s .word) ≡ d → ltb (s .word .0) (SINGLE + LOCKED) ≡ b
+          → Kept st k (readUnlockBy (lookAt st k) (s .word)
           (pick q (pick d (To (clearLocked (clearDowngraded (s .word)))) Contended)
           (pick b Refused (To (fewer (s .word))))))
       by true true b q d e = kept-stood st k here unmoved _ _ refl on
@@ -118,7 +118,7 @@ module _ (st : Setting) (k : ℕ) (p : Place) (here : mine st .place ≡ p)
 
   -- a downgrade is taken back: nobody holds, and the owner of the queue sees to it
   retracted : queued (s .word) ≡ true → downgraded (s .word) ≡ true
-      → Ended i (me .0) tin down (clearLocked (clearDowngraded (s .word))) (releasedRead (mine st .holding))
+      → Ended st down (clearLocked (clearDowngraded (s .word))) (releasedRead (mine st .holding))
   retracted q d = record {
     same-queue =
         clear-keeps LOCKED QUEUED refl (clearDowngraded (s .word)) ∙ clear-keeps DOWNGRADED QUEUED refl (s .word);
@@ -144,7 +144,7 @@ module _ (st : Setting) (k : ℕ) (p : Place) (here : mine st .place ≡ p)
     seen-to = λ _ _ e. never e (same-owner ∙ i .handed q d .0);
   }
     where
-      c : Hold (readers n s) (writers n s) (leavers n s) 1 0 0
+      c : HoldersAre n s 1 0 0
       c = i .count .handed q (i .handed q d .1) d
 
       unlocked : locked (clearLocked (clearDowngraded (s .word))) ≡ false
@@ -159,10 +159,9 @@ module _ (st : Setting) (k : ℕ) (p : Place) (here : mine st .place ≡ p)
           ∙ clear-keeps DOWNGRADED QUEUE-LOCKED refl (s .word)
 
   -- one reader fewer
-  left-word : queued (s .word) ≡ false → Ended i (me .0) tin down (fewer (s .word)) (releasedRead (mine st .holding))
+  left-word : queued (s .word) ≡ false → Ended st down (fewer (s .word)) (releasedRead (mine st .holding))
   left-word q =
-      ended-bare i (me .0) tin down (fewer (s .word)) (releasedRead (mine st .holding)) q
-      (by-plain (readers n s - 1) refl)
+      ended-bare st down (fewer (s .word)) (releasedRead (mine st .holding)) q (by-plain (readers n s - 1) refl)
       (λ r v l er ev el.
       counts r v l (omega (arith, holds)) (omega (arith, holds, c)) (omega (arith, left, c)) (readers n s - 1) refl)
     where
@@ -174,9 +173,7 @@ module _ (st : Setting) (k : ℕ) (p : Place) (here : mine st .place ≡ p)
       made r e = fewer-word (s .word) r (omega (arith, c, some))
 
       by-plain : (r : ℕ) → readers n s - 1 ≡ r → Plain (fewer (s .word))
-      by-plain zero e =
-          subst Plain (sym (word-is (fewer (s .word)) 0 (made 0 e .0 refl)))
-          (record { unqueued = refl; unowned = refl; plain = refl })
+      by-plain zero e = subst Plain (sym (word-is (fewer (s .word)) 0 (made 0 e .0 refl))) plain-free
       by-plain (suc r) e = readers-word (fewer (s .word)) (suc r) (made (suc r) e .1 (omega arith)) .is
 
       counts : (r v l : ℕ) → r + 1 ≡ readers n s → v ≡ 0 → l ≡ 0 → (m : ℕ) → readers n s - 1 ≡ m
@@ -190,18 +187,16 @@ module _ (st : Setting) (k : ℕ) (p : Place) (here : mine st .place ≡ p)
   taken : Kept st k (readUnlockCasBy (lookAt st k) (readUnlockOf (s .word)))
   taken = by (queued (s .word)) (downgraded (s .word)) (ltb (s .word .0) (SINGLE + LOCKED)) refl refl refl
     where
-      by : (q d b : Bool) → queued (s .word) ≡ q → downgraded (s .word) ≡ d → ltb (s .word .0) (SINGLE + LOCKED) ≡ b →
-          Kept st k (readUnlockCasBy (lookAt st k)
+      by : (q d b : Bool) → queued (s .word) ≡ q → downgraded (s .word) ≡ d → ltb (s .word .0) (SINGLE + LOCKED) ≡ b
+          → Kept st k (readUnlockCasBy (lookAt st k)
           (pick q (pick d (To (clearLocked (clearDowngraded (s .word)))) Contended)
           (pick b Refused (To (fewer (s .word))))))
-      by true true b q d e = kept-stood st k here unmoved _ _ refl (ends-call i (me .0) tin down _ _ (retracted q d))
+      by true true b q d e = kept-stood st k here unmoved _ _ refl (ends-call st down _ _ (retracted q d))
       by true false b q d e = judged
       by false d′ true q d e = judged
-      by false d′ false q d e = kept-stood st k here unmoved _ _ refl (ends-call i (me .0) tin down _ _ (left-word q))
+      by false d′ false q d e = kept-stood st k here unmoved _ _ refl (ends-call st down _ _ (left-word q))
 
 module _ (st : Setting) (k : ℕ) where
-  open Setting st using (n, s, g, i, me, tin)
-
   pub kept-read-unlock-load : mine st .place ≡ ReadUnlockLoad → Goes st k (λ v. readUnlockLoadOf v)
   kept-read-unlock-load here = judged st k ReadUnlockLoad here refl refl
 

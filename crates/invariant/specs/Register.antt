@@ -26,8 +26,9 @@ use Rattle.queue.specs.Invariant as Q
 use Rattle.queue.specs.Registering
 use Rattle.invariant.specs.Table.{handsOff, lookKind, About, filling, about, aboutAt, linksOf, waitOf, roleOf}
 use Rattle.invariant.specs.Table.{Free, Allowed, weight, leaver}
-use Rattle.invariant.specs.Invariant.{readers, writers, leavers, Hold, Unqueued, empty, written, read, Locked}
-use Rattle.invariant.specs.Invariant.{by-writer, by-readers, Count, Real, Newest, queueOf, Inv}
+use Rattle.invariant.specs.Invariant.{readers, writers, leavers, Unqueued, empty, written, read, Locked}
+use Rattle.invariant.specs.Invariant.{by-writer, by-readers, Count, Real, Newest, queueOf, Inv, CountedAs}
+use Rattle.invariant.specs.Invariant.{HoldersAre}
 use Rattle.invariant.specs.Exclusion.{unowned}
 use Rattle.invariant.specs.Frames.{moved, waits-as, view, summed, land}
 use Rattle.invariant.specs.Moves.{registers-waits, registers-walks, unregistered}
@@ -107,13 +108,13 @@ module _ (st : Setting) (writer : Bool) (reloads : ℕ)
       own : ReadyAt (takenBy g (me .0)) (linksOf (s .nd)) (suc (me .0)) true (withoutFlags (s .word) .0)
       own = rw (role-is false q) at (i .queue .know (me .0))
 
-      by : Unqueued (s .word) (readers n s) (writers n s) (leavers n s)
+      by : CountedAs (Unqueued (s .word)) n s
           → s .nd (suc (me .0)) .next .0 ≡ SINGLE * readers n s
       by (empty z h) = absurd (omega (arith, h .reads))
       by (written z h) = absurd (omega (arith, h .reads))
       by (read z r h) = own .nx ∙ omega arith
 
-  counts : Count w (readers n s) (writers n s) (leavers n s)
+  counts : CountedAs (Count w) n s
   counts = record {
     bare = λ e. never e (registered-queued (s .word) me);
     unlocked = λ _ e. by-unlocked (queued (s .word)) refl (sym (registered-locked (s .word) me) ∙ e);
@@ -126,23 +127,23 @@ module _ (st : Setting) (writer : Bool) (reloads : ℕ)
   }
     where
       by-unlocked : (q : Bool) → queued (s .word) ≡ q → locked (s .word) ≡ false
-          → Hold (readers n s) (writers n s) (leavers n s) 0 0 0
+          → HoldersAre n s 0 0 0
       by-unlocked true q e = i .count .unlocked q e
       by-unlocked false q e = never e (is-locked q)
 
       by-handed : (q : Bool) → queued (s .word) ≡ q → locked (s .word) ≡ true → downgraded (s .word) ≡ true
-          → Hold (readers n s) (writers n s) (leavers n s) 1 0 0
+          → HoldersAre n s 1 0 0
       by-handed true q e d = i .count .handed q e d
       by-handed false q e d = never (i .bare q .1) d
 
-      of : Unqueued (s .word) (readers n s) (writers n s) (leavers n s) → locked (s .word) ≡ true
-          → Locked (readers n s) (writers n s) (leavers n s)
+      of : CountedAs (Unqueued (s .word)) n s → locked (s .word) ≡ true
+          → CountedAs Locked n s
       of (empty z h) l = never (ap locked (word-is (s .word) 0 z)) l
       of (written z h) l = by-writer h
       of (read z r h) l = by-readers r h
 
       by-held : (q : Bool) → queued (s .word) ≡ q → locked (s .word) ≡ true → downgraded (s .word) ≡ false
-          → Locked (readers n s) (writers n s) (leavers n s)
+          → CountedAs Locked n s
       by-held true q e d = i .count .held q e d
       by-held false q e d = of (i .count .bare q) e
 
@@ -292,7 +293,7 @@ module _ (st : Setting) (writer : Bool) (reloads : ℕ)
       begun = begun-at s (me .0) _ (lookKind (handsOff w)) (public-look (handsOff w)) newest joined
 
 module _ (st : Setting) (writer : Bool) (reloads : ℕ) where
-  open Setting st using (n, s, g, i, me, tin)
+  open Setting st using (s, g, i, me)
 
   -- a registration that failed leaves the node filled, and nobody's
   unready : (seen : Word) → mine st .place ≡ RegisterCas writer reloads seen → Contends st

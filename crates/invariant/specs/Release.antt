@@ -32,11 +32,11 @@ use Rattle.invariant.specs.Table.{leaver}
 use Rattle.invariant.specs.Invariant.{readers, writers, leavers, Hold, empty, Real, Newest, queueOf, Inv}
 use Rattle.invariant.specs.Exclusion.{needs-some}
 use Rattle.invariant.specs.Frames.{summed, land, viewed-still, same-newest}
-use Rattle.invariant.specs.Kept.{lookAt, Kept, Goes, Setting, mine, kept-stood, movedTo, kept-compare}
+use Rattle.invariant.specs.Kept.{lookAt, Kept, Goes, Setting, mine, kept-stood, movedTo, kept-compare, became}
 use Rattle.invariant.specs.OffQueue.{off-queue, RoleDown, role-down, goes-off-queue, Ended, ends-call}
 use Rattle.invariant.specs.CallEnds.{ended-bare}
 use Rattle.invariant.specs.OneHolder.{one-holder, one-holder-bare, one-holder-plain}
-use Rattle.invariant.specs.Words.{word-is}
+use Rattle.invariant.specs.Words.{word-is, plain-free}
 use Rattle.invariant.specs.OnQueue.{public-look, begun-at}
 
 -- a thread that writes counts
@@ -49,9 +49,9 @@ module _ (st : Setting) (k : ℕ) where
   pub kept-write-unlock-cas : mine st .place ≡ WriteUnlockCas → Goes st k (λ v. writeUnlockCasOf v)
   kept-write-unlock-cas here = pick-both (Kept st k) (eqb (s .word .0) LOCKED) _ _
       (λ e. kept-stood st k here refl _ _ refl
-      (ends-call i (me .0) tin down (word 0) _ (released (eqb-true (s .word .0) LOCKED e))))
+      (ends-call st down (word 0) _ (released (eqb-true (s .word .0) LOCKED e))))
       (λ e. kept-stood st k here refl _ _ refl
-      (goes-off-queue i (me .0) tin down (ReleaseCas (s .word)) (off-queue _ _ _ _) (holds .reads)
+      (goes-off-queue st down (ReleaseCas (s .word)) (off-queue _ _ _ _) (holds .reads)
       (λ _. has-queue (eqb-false (s .word .0) LOCKED e)) (rw (is, holds .reads, holds .writes)) (rw is (never refl))))
     where
       is : aboutAt s (me .0) ≡ offQueue writes false false false
@@ -69,10 +69,10 @@ module _ (st : Setting) (k : ℕ) where
       has-queue : s .word .0 ≢ LOCKED → queued (s .word) ≡ true
       has-queue ne = not-false (queued (s .word)) (λ q. ne (one-holder-bare i some q .0))
 
-      released : s .word .0 ≡ LOCKED → Ended i (me .0) tin down (word 0) (releasedWrite (mine st .holding))
+      released : s .word .0 ≡ LOCKED → Ended st down (word 0) (releasedWrite (mine st .holding))
       released e =
-          ended-bare i (me .0) tin down (word 0) (releasedWrite (mine st .holding)) q
-          (record { unqueued = refl; unowned = refl; plain = refl })
+          ended-bare st down (word 0) (releasedWrite (mine st .holding)) q
+          plain-free
           (λ r v l er ev el.
           empty refl (record {
             reads = omega (arith, holds, only);
@@ -116,17 +116,16 @@ module _ (st : Setting) (k : ℕ) where
     -- nobody holds then
     none-left : (r v l : ℕ) → r + readsOf (mine st .holding) ≡ readers n s + 0
         → v + writesOf (mine st .holding) ≡ writers n s + 0
-        → l + leaver (mine st) ≡ leavers n s → Hold r v l 0 0 0
-    none-left r v l er ev
-        el = record {
-          reads = omega (arith, one-holder i some, reads-not);
-          writes = omega (arith, one-holder i some, own);
-          leaves = omega (arith, one-holder i some, own);
-        }
+        → l + leaver (mine st) ≡ leavers n s + 0 → Hold r v l 0 0 0
+    none-left r v l er ev el = record {
+      reads = omega (arith, one-holder i some, reads-not);
+      writes = omega (arith, one-holder i some, own);
+      leaves = omega (arith, one-holder i some, own);
+    }
 
     -- the owner of the queue sees to it
     left-to-owner : queueLocked (s .word) ≡ true
-        → Ended i (me .0) tin down (clearLocked (s .word)) (releasedWrite (mine st .holding))
+        → Ended st down (clearLocked (s .word)) (releasedWrite (mine st .holding))
     left-to-owner l = record {
       same-queue = clear-keeps LOCKED QUEUED refl (s .word);
       same-owner = clear-keeps LOCKED QUEUE-LOCKED refl (s .word);
@@ -152,11 +151,7 @@ module _ (st : Setting) (k : ℕ) where
     w = setQueueLocked (clearLocked (s .word))
 
     abbrev next : Thread
-    next = record {
-      place = WalkTail (Queue Leaver) w (toNode w);
-      token = mine st .token;
-      holding = releasedWrite (mine st .holding);
-    }
+    next = became (mine st) (WalkTail (Queue Leaver) w (toNode w)) (releasedWrite (mine st .holding))
 
     module _ (ql : queueLocked (s .word) ≡ false) where
       still-queued : queued w ≡ true
@@ -232,7 +227,7 @@ module _ (st : Setting) (k : ℕ) where
             (releasedWrite (mine st .holding))
             (pick l (end Done)
             (walkFrom (Queue Leaver) (pick l (clearLocked (s .word)) (setQueueLocked (clearLocked (s .word)))))))
-        by true e = kept-stood st k here refl _ _ refl (ends-call i (me .0) tin down _ _ (left-to-owner e))
+        by true e = kept-stood st k here refl _ _ refl (ends-call st down _ _ (left-to-owner e))
         by false e = kept-stood st k here refl _ _ refl (owns e)
 
   pub kept-release-cas : (seen : Word) → mine st .place ≡ ReleaseCas seen → Goes st k (λ v. releaseCasOf v seen)
@@ -241,5 +236,5 @@ module _ (st : Setting) (k : ℕ) where
       Kept st k (writesTo (lookAt st k) (releasedTo x) (releasedWrite (mine st .holding))
       (afterRelease x (releasedTo x)))) same (succeeds seen here))
       (kept-stood st k here refl _ _ refl
-      (goes-off-queue i (me .0) tin (down seen here) (ReleaseCas (s .word)) (off-queue _ _ _ _) (reads-not seen here)
+      (goes-off-queue st (down seen here) (ReleaseCas (s .word)) (off-queue _ _ _ _) (reads-not seen here)
       (λ _. has-queue seen here) (rw (is seen here)) (rw (is seen here) (never refl))))

@@ -43,6 +43,7 @@ use Rattle.invariant.specs.ReadUnlock.{kept-read-unlock-load, kept-read-
 use Rattle.invariant.specs.Subtract.{kept-subtract}
 use Rattle.invariant.specs.Release.{kept-write-unlock-cas, kept-release-cas}
 use Rattle.invariant.specs.Downgrade.{kept-downgrade-cas, kept-downgrade-slow-cas}
+use Rattle.queue.specs.Tests.{impossible}
 
 -- ── which node a step touches ──
 
@@ -138,7 +139,7 @@ module _ {n : ℕ} {s : Lock} {g : Ghost} (i : Inv n s g) where
 -- ── what a step does ──
 
 module _ (st : Setting) (few : st .n ≤ threadLimit) where
-  open Setting st using (n, s, g, i, me, tin)
+  open Setting st using (me)
 
   own : (p : Place) → Goes st (suc (me .0)) (λ v. advanceOf v p) → Goes st (me .0 + 1) (λ v. advanceOf v p)
   own p = subst (λ k. Goes st k (λ v. advanceOf v p)) (sym (add-one (me .0)))
@@ -149,7 +150,7 @@ module _ (st : Setting) (few : st .n ≤ threadLimit) where
       → ((k : Walk) (seen : Word) (tail : NodeNumber) → p ≡ At.WalkHead k seen tail → st .mark ≡ Missing → ⊥)
       → Goes st (touchedOf (accessOf me p) me .0) (λ v. advanceOf v p)
   unfolding accessOf advanceOf
-  kept-everywhere At.Idle here token fine marked = absurd (let bad : _≡_ {A = ℕ} 0 1 = cc in omega arith)
+  kept-everywhere At.Idle here token fine marked = impossible (cc)
   kept-everywhere (At.TryReadLoad blocking) here token fine marked = kept-try-read-load st _ blocking here
   kept-everywhere (At.TryReadCas blocking seen) here token fine marked = kept-try-read-cas st _ blocking seen here
   kept-everywhere (At.TryWriteOr blocking) here token fine marked = kept-try-write-or st _ blocking here

@@ -29,7 +29,7 @@ use Rattle.queue.specs.Roles.{head, filled, looks, HeadAt}
 use Rattle.queue.specs.Walking
 use Rattle.invariant.specs.Table.{walking, about, aboutAt, linksOf, waitOf, Reads, Allowed, leaver}
 use Rattle.invariant.specs.Invariant.{readers, writers, leavers, Locked, by-writer, by-readers, by-leaver, Real}
-use Rattle.invariant.specs.Invariant.{Inv}
+use Rattle.invariant.specs.Invariant.{Inv, CountedAs}
 use Rattle.invariant.specs.Exclusion.{real, quiet-reader}
 use Rattle.invariant.specs.Frames.{moved, waits-as, summed, land, viewed}
 use Rattle.invariant.specs.Moves.{stood}
@@ -76,7 +76,7 @@ module _ (st : Setting) (seen : Word) (tail : NodeNumber) (here : mine st .place
   only : (writers n s ≡ 0) × (leavers n s ≡ 0)
   only = by (i .count .held (reading .queue) is-locked (reading .plain))
     where
-      by : Locked (readers n s) (writers n s) (leavers n s) → (writers n s ≡ 0) × (leavers n s ≡ 0)
+      by : CountedAs Locked n s → (writers n s ≡ 0) × (leavers n s ≡ 0)
       by (by-writer h) = absurd (omega (arith, reading .some, h .reads))
       by (by-readers r h) = (h .writes, h .leaves)
       by (by-leaver h) = absurd (omega (arith, reading .some, h .reads))

@@ -43,8 +43,8 @@ by-not true e = never refl e
 by-not false e = refl
 
 off-facts : (may : May) (leaves contends : Bool) → RowFacts (offQueue may leaves false contends)
-off-facts may leaves
-    contends = record { stands = never refl; reading = never refl; changing = never refl; leaving = never refl }
+off-facts may leaves contends =
+    record { stands = never refl; reading = never refl; changing = never refl; leaving = never refl }
 
 waiting-facts : (asleep : Bool) → RowFacts (waiting asleep)
 waiting-facts asleep = record { stands = never refl; reading = never refl; changing = never refl; leaving = never refl }
@@ -54,22 +54,21 @@ waking-facts who role o c = record { stands = never o; reading = never refl; cha
 
 owning-facts : (who : Who) (seen : Word) (role : Role) (ok : Bool)
     → (changing role ≡ true → ok ≡ true → handsOff seen ≡ false) → RowFacts (owning who seen role ok)
-owning-facts who seen role ok
-    h = record { stands = λ _. inl refl; reading = never refl; changing = λ c e. (refl, h c e); leaving = never refl }
+owning-facts who seen role ok h =
+    record { stands = λ _. inl refl; reading = never refl; changing = λ c e. (refl, h c e); leaving = never refl }
 
 walking-facts : (k : Walk) (seen : Word) (role : Role) → onQueue role ≡ public (walkKindOf k seen)
     → changing role ≡ modifies (walkKindOf k seen) → RowFacts (walking k seen role)
-walking-facts (Queue who) seen role o
-    c = record {
-      stands = λ _. inl refl;
-      reading = never refl;
-      changing = λ e _. (refl, by-look (handsOff seen) (rw c at e));
-      leaving = never refl;
-    }
-walking-facts ReadUnlock seen role o
-    c = record { stands = λ _. inr refl; reading = λ _. refl; changing = never c; leaving = never refl }
-walking-facts Downgrade seen role o
-    c = record { stands = never o; reading = never refl; changing = never c; leaving = never refl }
+walking-facts (Queue who) seen role o c = record {
+  stands = λ _. inl refl;
+  reading = never refl;
+  changing = λ e _. (refl, by-look (handsOff seen) (rw c at e));
+  leaving = never refl;
+}
+walking-facts ReadUnlock seen role o c =
+    record { stands = λ _. inr refl; reading = λ _. refl; changing = never c; leaving = never refl }
+walking-facts Downgrade seen role o c =
+    record { stands = never o; reading = never refl; changing = never c; leaving = never refl }
 
 split-facts : (who : Who) (seen : Word) (role : Role) → RowFacts (owning who seen role (unheld seen))
 split-facts who seen role = owning-facts who seen role (unheld seen) (λ _. by-flags (locked seen) (downgraded seen))

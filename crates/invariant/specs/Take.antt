@@ -1,7 +1,7 @@
 -- A queue is taken off whole: by its owner's compare to 17 or 0, or by a downgrade's to 17 on a queue that nobody
 -- owns.
 -- Assumes nothing.
-use Prim.Native.Nat.{ℕ, suc, _+_, _*_, _≤_, _<_}
+use Prim.Native.Nat.{ℕ, suc, _+_, _*_, _≤_}
 use mathlib.Core.Bool.{Bool, true, false, not}
 use mathlib.Core.Logic.{_≢_, _⊎_, inl, inr}
 use mathlib.Core.Path.{_≡_, refl, ap, _∙_, subst}
@@ -18,46 +18,44 @@ use Rattle.state.specs.declared.place.Place.the-variants.{TakeCas, WakePrev}
 use Rattle.state.specs.declared.place.Who.{Who}
 use Rattle.unlock.specs.UnlockQueue.{takeCasOf}
 use Rattle.queue.specs.Tests.{never}
-use Rattle.queue.specs.Tickets.{Ghost, took, ticketsOf, takenBy as taken}
+use Rattle.queue.specs.Tickets.{took, ticketsOf, takenBy as taken}
 use Rattle.queue.specs.Queue.{Full}
 use Rattle.queue.specs.Roles.{head, filled, changes, HeadAt}
 use Rattle.queue.specs.Invariant as Q
 use Rattle.queue.specs.Walking
 use Rattle.queue.specs.Taking
-use Rattle.invariant.specs.Table.{handsOff, writes, owning, about, Lock, aboutAt, linksOf, Allowed, weight}
-use Rattle.invariant.specs.Table.{leaver, same-role}
-use Rattle.invariant.specs.Invariant.{readers, writers, leavers, Hold, Unqueued, empty, read, Newest, queueOf}
-use Rattle.invariant.specs.Invariant.{Inv}
+use Rattle.invariant.specs.Table.{handsOff, writes, owning, about, aboutAt, linksOf, Allowed, weight, same-role}
+use Rattle.invariant.specs.Invariant.{readers, writers, leavers, Unqueued, empty, read, Newest, queueOf, Inv}
+use Rattle.invariant.specs.Invariant.{HoldersAre}
 use Rattle.invariant.specs.Exclusion.{inside, owned, unowned, is-queued, lonely, nobody-needs}
-use Rattle.invariant.specs.Frames.{moved, land, viewed-still}
+use Rattle.invariant.specs.Frames.{land, viewed-still, Recount}
 use Rattle.invariant.specs.Moves.{takes-all, take-fails}
 use Rattle.invariant.specs.Kept.{kept-still, placed, Goes, Setting, mine, movedTo, kept-compare}
 use Rattle.invariant.specs.Owner.{again}
 use Rattle.invariant.specs.Split.{may-wake}
-use Rattle.invariant.specs.Words.{Plain, readers-word}
+use Rattle.invariant.specs.Words.{Plain, readers-word, counts-bare, plain-free}
 
 -- ── the word is unqueued again, and the queue is thread t's ──
 
-module _ {n : ℕ} {s : Lock} {g : Ghost} (i : Inv n s g) (t : ℕ) (tin : t < n) (w : Word) (x : Thread)
-    (p : Plain w) where
+module _ (st : Setting) (w : Word) (x : Thread) (p : Plain w) where
+  open Setting st using (n, s, g, i, me, tin)
+
   pub record Takes : Type 0 where
-    pub queue : Q.Inv (took g t) (Q.turned (queueOf s) t (about (x .place) .role))
-    pub registered : about (x .place) .registered ≡ aboutAt s t .registered
+    pub queue : Q.Inv (took g (me .0)) (Q.turned (queueOf s) (me .0) (about (x .place) .role))
+    pub registered : about (x .place) .registered ≡ aboutAt s (me .0) .registered
     pub owner : about (x .place) .owner ≡ false
-    pub owned : weight (queueLocked (s .word)) ≡ weight (aboutAt s t .owner)
+    pub owned : weight (queueLocked (s .word)) ≡ weight (aboutAt s (me .0) .owner)
     pub may : Allowed (about (x .place) .may) (x .holding)
     pub needs : about (x .place) .needsQueue ≡ false
-    pub needed : (u : ℕ) → u ≢ t → aboutAt s u .needsQueue ≡ true → ⊥
-    pub count : (r v l : ℕ) → r + readsOf (s .th t .holding) ≡ readers n s + readsOf (x .holding)
-        → v + writesOf (s .th t .holding) ≡ writers n s + writesOf (x .holding)
-        → l + leaver (s .th t) ≡ leavers n s + leaver x → Unqueued w r v l
+    pub needed : (u : ℕ) → u ≢ me .0 → aboutAt s u .needsQueue ≡ true → ⊥
+    pub count : Recount n s (mine st) x (Unqueued w)
     pub fits : about (x .place) .ok ≡ true
     pub unfilled : filled (about (x .place) .role) ≡ false
     pub asleep : about (x .place) .asleep ≡ false
 
-  pub takes-whole : Takes → Inv n (moved s t w x (s .nd)) (took g t)
-  takes-whole c = land i (took g t) t w x (s .nd) (record {
-    queue = viewed-still s t x w (c .registered) (c .queue);
+  pub takes-whole : Takes → Inv n (movedTo st w x) (took g (me .0))
+  takes-whole c = land i (took g (me .0)) (me .0) w x (s .nd) (record {
+    queue = viewed-still s (me .0) x w (c .registered) (c .queue);
     newest = λ e. never (p .unqueued) e;
     nobody = λ e. refl;
     handed = λ e. never (p .unqueued) e;
@@ -65,14 +63,7 @@ module _ {n : ℕ} {s : Lock} {g : Ghost} (i : Inv n s g) (t : ℕ) (tin : t < n
     inside = tin;
     owner = rw (c .owner, p .unowned) (omega (arith, c .owned));
     may = c .may;
-    count =
-        λ r v l er ev el.
-        record {
-          bare = λ e. c .count r v l er ev el;
-          unlocked = λ e. never (p .unqueued) e;
-          handed = λ e. never (p .unqueued) e;
-          held = λ e. never (p .unqueued) e;
-        };
+    count = λ r v l er ev el. counts-bare p (c .count r v l er ev el);
     needs = never (c .needs);
     needs-all = λ u ne e. absurd (c .needed u ne e);
     plain = λ e. p .plain;
@@ -114,7 +105,7 @@ module _ (st : Setting) (who : Who) (seen : Word) (tail : NodeNumber)
   take-to : s .word ≡ seen → (w : Word) → Plain w → writers n s ≡ 0 → leavers n s ≡ 0
       → ((w .0 ≡ 0) × (readers n s ≡ 0)) ⊎ ((w .0 ≡ SINGLE * readers n s + LOCKED) × (1 ≤ readers n s))
       → Inv n (movedTo st w (placed (mine st) (WakePrev who tail))) (took g (me .0))
-  take-to same w p w0 l0 rs = takes-whole i (me .0) tin w (placed (mine st) (WakePrev who tail)) p (record {
+  take-to same w p w0 l0 rs = takes-whole st w (placed (mine st) (WakePrev who tail)) p (record {
     queue =
         Taking.take (i .queue) (me .0) (v .ticket) (same-role here)
         (lonely i (me .0) (rw is refl) (rw is hands-on)) (v .last) (v .node ∙ ap (λ y. toNode y .0) same);
@@ -153,7 +144,7 @@ module _ (st : Setting) (who : Who) (seen : Word) (tail : NodeNumber)
           → Inv n (movedTo st (word (SINGLE + LOCKED)) (placed (mine st) (WakePrev who tail)))
           (took g (me .0))
       handed d =
-          let c : Hold (readers n s) (writers n s) (leavers n s) 1 0 0 = i .count .handed has-queue
+          let c : HoldersAre n s 1 0 0 = i .count .handed has-queue
           (i .handed has-queue d .1) d in
           take-to same (word (SINGLE + LOCKED)) (readers-word (word (SINGLE + LOCKED)) 1 refl .is) (c .writes)
           (c .leaves) (inr (omega arith, omega arith))
@@ -162,9 +153,9 @@ module _ (st : Setting) (who : Who) (seen : Word) (tail : NodeNumber)
       free : downgraded (s .word) ≡ false
           → Inv n (movedTo st (word 0) (placed (mine st) (WakePrev who tail))) (took g (me .0))
       free d =
-          let c : Hold (readers n s) (writers n s) (leavers n s) 0 0 0 = i .count .unlocked has-queue
+          let c : HoldersAre n s 0 0 0 = i .count .unlocked has-queue
           (unlocked (locked (s .word)) (downgraded (s .word)) (ap handsOff same ∙ hands-on) d) in
-          take-to same (word 0) (record { unqueued = refl; unowned = refl; plain = refl }) (c .writes) (c .leaves)
+          take-to same (word 0) plain-free (c .writes) (c .leaves)
           (inl (refl, c .reads))
         where
           unlocked : (a d : Bool) → pick a (not d) false ≡ false → d ≡ false → a ≡ false

@@ -306,8 +306,8 @@ module _ (st : Setting) (few : st .n ≤ threadLimit) (who : Who) (current : Nod
     wake-to : (p : Place) → OwnsNothing (about p) (mine st .holding) (waiter who)
         → Q.Inv (completed g (me .0))
         (Q.moved (queueOf called-first) (me .0) (linksOf (s .nd))
-        (upd (waitOf (called-first .th) (s .nd)) (current .0) false) (about p .role)) →
-        Inv n (record {
+        (upd (waitOf (called-first .th) (s .nd)) (current .0) false) (about p .role))
+        → Inv n (record {
           word = s .word;
           th = wokenIn (upd (s .th) (me .0) (placed (mine st) p)) (ownerOf current);
           nd = upd (s .nd) (current .0) (withCompleted (s .nd (current .0)));

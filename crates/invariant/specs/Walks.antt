@@ -40,7 +40,7 @@ use Rattle.invariant.specs.OnQueue.{Alike, alike-walk, alike-own, unlink
 use Rattle.invariant.specs.OnQueue.{goes-on-queue, Linked}
 
 module _ (st : Setting) where
-  open Setting st using (n, s, g, i, me, tin)
+  open Setting st using (n, s, g, i, me)
 
   -- a walk goes on with the word that it saw
   walks-on : (k : Walk) (seen : Word) {r r′ : Role} {q : Place} → mine st .place ≡ q → about q ≡ walking k seen r
@@ -107,12 +107,12 @@ module _ (st : Setting) where
           → Q.Inv g (Q.relinked (queueOf s) (me .0) (setTl (linksOf (s .nd)) (toNode seen .0) (tail .0)) r)
           → Inv n (goneTo st p nodes) g
       owns p r ok on f e q =
-          let is : aboutAt s (me .0)
-          ≡ owning who seen (head (lookKind (handsOff seen)) (toNode seen .0) (tail .0)) true = ap about here in
           goes-on-queue st p (rw (is, on) (alike-own who seen seen _ r true ok f e))
           (linked-tail (s .nd) (toNode seen .0) tail)
-          (λ x _. ap handsOff (ap (λ a. a .seen) on) ∙ (rw is at (i .calm x (me .0))) refl)
-          (rw on q)
+          (λ x _. ap handsOff (ap (λ a. a .seen) on) ∙ (rw is at (i .calm x (me .0))) refl) (rw on q)
+        where
+          is : aboutAt s (me .0) ≡ owning who seen (head (lookKind (handsOff seen)) (toNode seen .0) (tail .0)) true
+          is = ap about here
 
       role-is : (b : Bool) → handsOff seen ≡ b → roleOf (s .th) (me .0) ≡ head (lookKind b) (toNode seen .0) (tail .0)
       role-is b e = same-role here ∙ ap (λ c. head (lookKind c) (toNode seen .0) (tail .0)) e
@@ -166,8 +166,7 @@ module _ (st : Setting) where
         let is : aboutAt s (me .0) ≡ walking Downgrade seen (head alone (toNode seen .0) (tail .0)) = ap about here in (
           g,
           goes-on-queue st (WakePrev Leaver tail) (rw is turned) (linked-tail (s .nd) (toNode seen .0) tail)
-              (λ x. never refl)
-              (Walking.store-alone (i .queue) (me .0) (same-role here)),
+              (λ x. never refl) (Walking.store-alone (i .queue) (me .0) (same-role here)),
           stood me g here refl _ refl,
         )
       where

@@ -16,7 +16,7 @@ use Rattle.word.specs.declared.flags.Word.{Word}
 use Rattle.state.specs.View.{agreesOf}
 use Rattle.state.specs.declared.view.View.{View}
 use Rattle.queue.specs.Tests.{never}
-use Rattle.invariant.specs.Invariant.{Unqueued, empty, written, read}
+use Rattle.invariant.specs.Invariant.{Unqueued, empty, written, read, Count}
 
 -- words of one number are one
 pub word-is : (x : Word) (k : ℕ) → x .0 ≡ k → x ≡ word k
@@ -34,6 +34,9 @@ pub record Plain (x : Word) : Type 0 where
   pub unqueued : queued x ≡ false
   pub unowned : queueLocked x ≡ false
   pub plain : downgraded x ≡ false
+
+pub plain-free : Plain (word 0)
+plain-free = record { unqueued = refl; unowned = refl; plain = refl }
 
 -- of k readers, or with k = 0 the writer's
 pub record Readers (x : Word) : Type 0 where
@@ -67,8 +70,7 @@ still-locked x k e = pick-both (λ y. y .0 ≡ SINGLE * k + LOCKED) (locked x) x
 pub granted-word : (w x : Word) (r v l : ℕ) → ReadGranted w x → Unqueued w r v l
     → (x .0 ≡ SINGLE * (r + 1) + LOCKED) × (v ≡ 0) × (l ≡ 0)
 granted-word w x r v l d (empty z h) =
-    let e : setLocked (word (w .0 + SINGLE)) .0
-    ≡ SINGLE * 1 + LOCKED = set-locked (word (w .0 + SINGLE)) 1 (omega arith) in
+    let e = set-locked (word (w .0 + SINGLE)) 1 (omega arith) in
     (ap (λ y. y .0) (d .to) ∙ omega arith, omega arith, omega arith)
 granted-word w x r v l d (written z h) = absurd (d .unwritten z)
 granted-word w x r v l d (read z some h) =
@@ -89,3 +91,13 @@ fewer-word w r e = (
   where
     zero-not : w .0 - (SINGLE + LOCKED) ≡ 0 → 1 ≤ r → ⊥
     zero-not z some = omega arith
+
+-- holders against a word without a queue
+pub counts-bare : {x : Word} {r w l : ℕ} → Plain x → Unqueued x r w l → Count x r w l
+counts-bare p h =
+    record {
+      bare = λ _. h;
+      unlocked = λ e. never (p .unqueued) e;
+      handed = λ e. never (p .unqueued) e;
+      held = λ e. never (p .unqueued) e;
+    }

@@ -16,6 +16,8 @@ use Rattle.queue.specs.Tickets.{Ghost, ticketsOf, takenBy, Held, Parts, 
 use Rattle.queue.specs.Tickets.{live-taken}
 use Rattle.queue.specs.Roles.{WalkKind, looks, changes, alone, Role, none, onQueue, changing, filled, walkedOn}
 use Rattle.queue.specs.Roles.{Ground, Know, Still, KeepsClean, Untouched, Frame, agree-still, know-frame}
+use Rattle.queue.specs.Roles.{changing-on}
+use Rattle.queue.specs.Tests.{never, not-true}
 
 -- the links, which nodes wait, the threads' roles
 pub record St : Type 0 where
@@ -28,6 +30,10 @@ pub record Inv (g : Ghost) (s : St) : Type 0 where
   pub queue : Queue (ticketsOf g) (s .links)
   pub know : (t : ℕ) → Know (ticketsOf g) (takenBy g t) (s .links) t (s .role t)
   pub free : (t : ℕ) → filled (s .role t) ≡ true → s .wait (suc t) ≡ false
+
+-- where a walker of kind k walks
+abbrev pub walkedBy : WalkKind → Ghost → ℕ → Interval
+walkedBy k g t = walkedOn k (ticketsOf g) (takenBy g t)
 
 -- thread t has moved
 abbrev pub moved : St → ℕ → Links → (ℕ → Bool) → Role → St
@@ -79,6 +85,10 @@ Lonely s t = (u : ℕ) → u ≢ t → onQueue (s .role u) ≡ false
 abbrev pub Quiet : St → ℕ → Type 0
 Quiet s t = (u : ℕ) → u ≢ t → changing (s .role u) ≡ false
 
+-- who changes the queue stands on it
+pub lonely-quiet : (s : St) (t : ℕ) → Lonely s t → Quiet s t
+lonely-quiet s t lone u ne = not-true (changing (s .role u)) (λ c. never (lone u ne) (changing-on (s .role u) c))
+
 -- a store to node x
 abbrev pub Only : Links → Links → ℕ → Type 0
 Only l l′ x = (k : ℕ) → k ≢ x → Untouched l l′ k
@@ -97,12 +107,11 @@ abbrev pub fillLinks : Links → ℕ → Bool → ℕ → Links
 fillLinks l x first n = record { nx = upd (l .nx) x n; pv = upd (l .pv) x 0; tl = upd (l .tl) x (pick first x 0) }
 
 pub only-fill : (l : Links) (x : ℕ) (first : Bool) (n : ℕ) → Only l (fillLinks l x first n) x
-only-fill l x first n k
-    ne = record {
-      nx = upd-other (l .nx) x n k ne;
-      pv = upd-other (l .pv) x 0 k ne;
-      tl = upd-other (l .tl) x (pick first x 0) k ne;
-    }
+only-fill l x first n k ne = record {
+  nx = upd-other (l .nx) x n k ne;
+  pv = upd-other (l .pv) x 0 k ne;
+  tl = upd-other (l .tl) x (pick first x 0) k ne;
+}
 
 -- what the step of t is to leave alone for another thread
 pub record Spared (g g′ : Ghost) (s : St) (l′ : Links) (wait′ : ℕ → Bool) (u : ℕ) : Type 0 where
@@ -128,19 +137,19 @@ module _ {g : Ghost} {s : St} (v : Inv g s) (t : ℕ) where
   pub agree-refl : (p : Interval) → Agree p (p .log) (s .links) (s .links)
   agree-refl p = record { log = λ i a b. refl; nx = λ i a b. refl; pv = λ i a b. refl; tl = λ i a b. refl }
 
-  pub role-knows : (r : Role) → s .role t ≡ r → Know (ticketsOf g) (takenBy g t) (s .links) t r
-  role-knows r e = rw e at (v .know t)
+  pub role-knows : {r : Role} → s .role t ≡ r → Know (ticketsOf g) (takenBy g t) (s .links) t r
+  role-knows e = rw e at (v .know t)
 
   pub live : Live (ticketsOf g)
   live = live-queue (v .parts)
 
-  pub live-on : (k : WalkKind) → Live (walkedOn k (ticketsOf g) (takenBy g t))
+  pub live-on : (k : WalkKind) → Live (walkedBy k g t)
   live-on looks = live
   live-on changes = live
   live-on alone = live-taken (v .parts) t
 
   pub queue-on : (k : WalkKind) → Ground k (takenBy g t) (s .links)
-      → Queue (walkedOn k (ticketsOf g) (takenBy g t)) (s .links)
+      → Queue (walkedBy k g t) (s .links)
   queue-on looks e = v .queue
   queue-on changes e = v .queue
   queue-on alone e = e
@@ -166,7 +175,7 @@ module _ {g : Ghost} {s : St} (v : Inv g s) (t : ℕ) where
   clean-apart l′ a h f c i x y = a .pv i (omega (arith, v .queue .base)) y ∙ c i x y
 
   -- the store is to the node of ticket j, which o holds
-  module _ (l′ : Links) (j o : ℕ) (hj : Held g (s .wait) o j) (only : Only (s .links) l′ (g .log j)) where
+  module _ {l′ : Links} {j o : ℕ} (hj : Held g (s .wait) o j) (only : Only (s .links) l′ (g .log j)) where
     pub taken-apart : (u : ℕ) → suc u ≢ o → Agree (takenBy g u) (g .log) (s .links) l′
     taken-apart u ne = agree-apart (takenBy g u) l′ (g .log j) only
         (λ i a b. owners-apart (v .parts) i j (suc u) o (v .parts .held u i a b .1) hj ne)
@@ -184,18 +193,17 @@ module _ {g : Ghost} {s : St} (v : Inv g s) (t : ℕ) where
         → (changing (s .role u) ≡ true → KeepsClean (ticketsOf g) (ticketsOf g′) (s .links) l′)
         → (changing (s .role u) ≡ true → l′ .nx (g .log (g .lo)) ≡ s .links .nx (g .log (g .lo)))
         → Spared g g′ s l′ (s .wait) u
-    spared-queue g′ lg u ne other et st cl
-        be = record {
-          taken = et;
-          frame = record {
-            taken = rw lg (taken-apart u other);
-            node = node-apart u;
-            still = st;
-            clean = cl;
-            below = λ c _. be c;
-          };
-          free = v .free u;
-        }
+    spared-queue g′ lg u ne other et st cl be = record {
+      taken = et;
+      frame = record {
+        taken = rw lg (taken-apart u other);
+        node = node-apart u;
+        still = st;
+        clean = cl;
+        below = λ c _. be c;
+      };
+      free = v .free u;
+    }
 
     -- t stores in what it has taken itself
     pub spared-own : o ≡ suc t → (u : ℕ) → u ≢ t → Spared g g s l′ (s .wait) u

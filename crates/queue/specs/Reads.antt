@@ -9,8 +9,8 @@ use native.Mathlib.Omega.{arith}
 use Rattle.queue.specs.Queue.{Links, Interval, Walker, Full}
 use Rattle.queue.specs.Tickets.{Ghost, ticketsOf, takenBy}
 use Rattle.queue.specs.Roles.{WalkKind, looks, changes, alone, Role, none, ready, walk, past, link, head, split}
-use Rattle.queue.specs.Roles.{aside, undo, wake, store, walkedOn, PastAt, HeadAt, AsideAt, Know, onQueue}
-use Rattle.queue.specs.Invariant.{St, Inv}
+use Rattle.queue.specs.Roles.{aside, undo, wake, store, PastAt, HeadAt, AsideAt, Know, onQueue}
+use Rattle.queue.specs.Invariant.{St, Inv, walkedBy}
 
 -- ── every node that a role names waits ──
 
@@ -32,9 +32,9 @@ module _ {g : Ghost} {s : St} (v : Inv g s) (t : ℕ) where
   abbrev pub NodeWaits : ℕ → Type 0
   NodeWaits x = s .wait x ≡ true
 
-  waits-on : (k : WalkKind) (i x : ℕ) → walkedOn k (ticketsOf g) (takenBy g t) .lo ≤ i
-      → i < walkedOn k (ticketsOf g) (takenBy g t) .hi
-      → walkedOn k (ticketsOf g) (takenBy g t) .log i ≡ x → NodeWaits x
+  waits-on : (k : WalkKind) (i x : ℕ) → walkedBy k g t .lo ≤ i
+      → i < walkedBy k g t .hi
+      → walkedBy k g t .log i ≡ x → NodeWaits x
   waits-on looks i x a b e = rw (← e) (v .parts .queued i a b .waits)
   waits-on changes i x a b e = rw (← e) (v .parts .queued i a b .waits)
   waits-on alone i x a b e = rw (← e) (v .parts .held t i a b .1 .waits)
@@ -48,15 +48,15 @@ module _ {g : Ghost} {s : St} (v : Inv g s) (t : ℕ) where
   head-waits : (k : WalkKind) (hd tail : ℕ) → HeadAt k (ticketsOf g) (takenBy g t) (s .links) hd tail
       → NodeWaits hd × NodeWaits tail
   head-waits k hd tail w =
-      let y : Full (walkedOn k (ticketsOf g) (takenBy g t)) (s .links) (w .h) = w .way in (
+      let y : Full (walkedBy k g t) (s .links) (w .h) = w .way in (
         waits-on k (w .h) hd (omega arith) (omega arith) (w .ish),
-        waits-on k (walkedOn k (ticketsOf g) (takenBy g t) .lo) tail (omega arith) (omega arith) (w .ist),
+        waits-on k (walkedBy k g t .lo) tail (omega arith) (omega arith) (w .ist),
       )
 
   past-waits : (k : WalkKind) (hd cu : ℕ) → PastAt k (ticketsOf g) (takenBy g t) (s .links) hd cu
       → NodeWaits hd × NodeWaits cu
   past-waits k hd cu w =
-      let y : Walker (walkedOn k (ticketsOf g) (takenBy g t)) (s .links) (w .h) (suc (w .d)) = w .way in (
+      let y : Walker (walkedBy k g t) (s .links) (w .h) (suc (w .d)) = w .way in (
         waits-on k (w .h) hd (omega arith) (omega arith) (w .ish),
         waits-on k (suc (w .d)) cu (omega arith) (omega arith) (w .isc),
       )
@@ -65,13 +65,13 @@ module _ {g : Ghost} {s : St} (v : Inv g s) (t : ℕ) where
   named none w = tt
   named (ready b n) w = tt
   named (walk k hd cu) w =
-      let y : Walker (walkedOn k (ticketsOf g) (takenBy g t)) (s .links) (w .h) (w .c) = w .way in (
+      let y : Walker (walkedBy k g t) (s .links) (w .h) (w .c) = w .way in (
         waits-on k (w .h) hd (omega arith) (omega arith) (w .ish),
         waits-on k (w .c) cu (omega arith) (omega arith) (w .isc),
       )
   named (past k hd cu) w = past-waits k hd cu w
   named (link k hd cu nn) w =
-      let y : Walker (walkedOn k (ticketsOf g) (takenBy g t)) (s .links) (w .past .h) (suc (w .past .d)) =
+      let y : Walker (walkedBy k g t) (s .links) (w .past .h) (suc (w .past .d)) =
       w .past .way in (
         past-waits k hd cu (w .past) .0,
         past-waits k hd cu (w .past) .1,

@@ -21,7 +21,7 @@ module _ {g : Ghost} {s : St} (v : Inv g s) (t : ℕ) where
   unready {first} {n} e = turn g s v t none (w .empty) (never refl)
     where
       w : ReadyAt (takenBy g t) (s .links) (suc t) first n
-      w = role-knows v t (ready first n) e
+      w = role-knows v t e
 
   -- a node that does not wait is nobody's
   pub fill : (first : Bool) (n : ℕ) → s .role t ≡ none → s .wait (suc t) ≡ false
@@ -30,7 +30,7 @@ module _ {g : Ghost} {s : St} (v : Inv g s) (t : ℕ) where
       step v t g l′ (s .wait) (ready first n) (v .parts)
       (Queue.queue-agree off (v .queue))
       (record {
-        empty = role-knows v t none e;
+        empty = role-knows v t e;
         nx = upd-same (s .links .nx) (suc t) n;
         pv = upd-same (s .links .pv) (suc t) 0;
         tl = upd-same (s .links .tl) (suc t) (pick first (suc t) 0);
@@ -98,7 +98,7 @@ module _ {g : Ghost} {s : St} (v : Inv g s) (t : ℕ) where
       g′ = registered g (suc t)
 
       w : ReadyAt (takenBy g t) (s .links) (suc t) first n
-      w = role-knows v t (ready first n) e
+      w = role-knows v t e
 
       old : (i : ℕ) → i < g .hi → upd (g .log) (g .hi) (suc t) i ≡ g .log i
       old i h = log-below (v .parts) (suc t) i h
@@ -121,7 +121,7 @@ module _ {g : Ghost} {s : St} (v : Inv g s) (t : ℕ) where
   pub register-first : {n : ℕ} → s .role t ≡ ready true n → g .lo ≡ g .hi
       → Inv (registered g (suc t)) (moved s t (s .links) (upd (s .wait) (suc t) true) none)
   register-first {n} e z =
-      let w : ReadyAt (takenBy g t) (s .links) (suc t) true n = role-knows v t (ready true n) e in
+      let w : ReadyAt (takenBy g t) (s .links) (suc t) true n = role-knows v t e in
       join true n e
       (Queue.first relogged z (rw (upd-same (g .log) (g .hi) (suc t)) (w .pv))
       (rw (upd-same (g .log) (g .hi) (suc t)) (w .tl)))
@@ -129,7 +129,7 @@ module _ {g : Ghost} {s : St} (v : Inv g s) (t : ℕ) where
   pub register-next : {n : ℕ} (p : ℕ) → s .role t ≡ ready false n → suc p ≡ g .hi → g .lo ≤ p → g .log p ≡ linkIn n
       → Inv (registered g (suc t)) (moved s t (s .links) (upd (s .wait) (suc t) true) none)
   register-next {n} p e at some is =
-      let w : ReadyAt (takenBy g t) (s .links) (suc t) false n = role-knows v t (ready false n) e in
+      let w : ReadyAt (takenBy g t) (s .links) (suc t) false n = role-knows v t e in
       join false n e (Queue.grow relogged p (sym at) (omega arith)
       (rw (upd-same (g .log) (g .hi) (suc t), log-below (v .parts) (suc t) p (omega arith))
       (ap linkIn (w .nx) ∙ sym is))

@@ -76,6 +76,20 @@ changing (undo _ _ _) = true
 changing (wake _) = false
 changing (store _ _) = false
 
+-- what it holds is set aside: from the store of prev in the head until the compare succeeds or the old tail is restored
+abbrev pub asideRole : Role → Bool
+asideRole none = false
+asideRole (ready _ _) = false
+asideRole (walk _ _ _) = false
+asideRole (past _ _ _) = false
+asideRole (link _ _ _ _) = false
+asideRole (head _ _ _) = false
+asideRole (split _ _ _) = false
+asideRole (aside _ _) = true
+asideRole (undo _ _ _) = true
+asideRole (wake _) = false
+asideRole (store _ _) = false
+
 -- its own node is filled and not registered
 abbrev pub filled : Role → Bool
 filled none = false
@@ -239,14 +253,13 @@ module _ {x x′ : Interval} {l l′ : Links} (s : Still x x′ l l′) where
   back-still a b al bh k j y z = s .back j (omega arith) (omega arith) (k j y z)
 
   walk-still : (h c : ℕ) → Walker x l h c → Walker x′ l′ h c
-  walk-still h c
-      w = record {
-        base = omega arith;
-        low = omega arith;
-        mid = w .mid;
-        top = omega arith;
-        back = back-still c h (omega arith) (w .top) (w .back);
-      }
+  walk-still h c w = record {
+    base = omega arith;
+    low = omega arith;
+    mid = w .mid;
+    top = omega arith;
+    back = back-still c h (omega arith) (w .top) (w .back);
+  }
 
   full-still : (h : ℕ) → Full x l h → Full x′ l′ h
   full-still h w = record {
@@ -279,21 +292,19 @@ module _ {p : Interval} {log′ : ℕ → ℕ} {l l′ : Links} (mine : Agree p 
   ground-on alone v = queue-agree mine v
 
   wake-frame : (cu : ℕ) → WakeAt p l cu → WakeAt (relog p log′) l′ cu
-  wake-frame cu
-      w = record {
-        some = w .some;
-        isc = mine .log (p .lo) (omega arith) (w .some) ∙ w .isc;
-        mine = mine-agree mine (p .lo) (omega arith) (w .mine);
-      }
+  wake-frame cu w = record {
+    some = w .some;
+    isc = mine .log (p .lo) (omega arith) (w .some) ∙ w .isc;
+    mine = mine-agree mine (p .lo) (omega arith) (w .mine);
+  }
 
   store-frame : (cu prev : ℕ) → StoreAt p l cu prev → StoreAt (relog p log′) l′ cu prev
-  store-frame cu prev
-      w = record {
-        some = w .some;
-        isc = mine .log (p .lo) (omega arith) (w .some) ∙ w .isc;
-        rest = go (w .rest);
-        mine = mine-agree mine (suc (p .lo)) (omega arith) (w .mine);
-      }
+  store-frame cu prev w = record {
+    some = w .some;
+    isc = mine .log (p .lo) (omega arith) (w .some) ∙ w .isc;
+    rest = go (w .rest);
+    mine = mine-agree mine (suc (p .lo)) (omega arith) (w .mine);
+  }
     where
       go : ((suc (p .lo) ≡ p .hi) × (prev ≡ 0)) ⊎ ((suc (p .lo) < p .hi) × (p .log (suc (p .lo)) ≡ prev))
           → ((suc (p .lo) ≡ p .hi) × (prev ≡ 0)) ⊎ ((suc (p .lo) < p .hi) × (log′ (suc (p .lo)) ≡ prev))

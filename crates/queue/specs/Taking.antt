@@ -14,10 +14,9 @@ use Rattle.queue.specs.Tickets.{Ghost, ticketsOf, spanInterval, takenBy,
 use Rattle.queue.specs.Tickets.{emptySpan, took, wholeSpan, completed, restSpan, parts-aside, parts-restore}
 use Rattle.queue.specs.Tickets.{parts-take, parts-complete}
 use Rattle.queue.specs.Roles.{changes, alone, Role, none, walk, head, split, aside, undo, wake, store, filled}
-use Rattle.queue.specs.Roles.{changing-on, WalkAt, HeadAt, SplitAt, AsideAt, UndoAt, WakeAt, StoreAt, Know}
-use Rattle.queue.specs.Roles.{agree-still}
+use Rattle.queue.specs.Roles.{WalkAt, HeadAt, SplitAt, AsideAt, UndoAt, WakeAt, StoreAt, Know, agree-still}
 use Rattle.queue.specs.Invariant.{St, Inv, moved, Lonely, only-tl, Spared, step, turn, role-knows, live}
-use Rattle.queue.specs.Invariant.{agree-refl, spared-queue, turned, relinked}
+use Rattle.queue.specs.Invariant.{agree-refl, spared-queue, turned, relinked, lonely-quiet}
 
 module _ {g : Ghost} {s : St} (v : Inv g s) (t : ℕ) where
   -- ── set aside, commit, restore ──
@@ -28,7 +27,7 @@ module _ {g : Ghost} {s : St} (v : Inv g s) (t : ℕ) where
   load-split {hd} {tail} e z = turn g s v t (split hd tail (s .links .pv tail)) (go (eq? (g .lo) (w .h))) (never refl)
     where
       w : HeadAt changes (ticketsOf g) (takenBy g t) (s .links) hd tail
-      w = role-knows v t (head changes hd tail) e
+      w = role-knows v t e
 
       go : (g .lo ≡ w .h) ⊎ (g .lo ≢ w .h) → SplitAt (ticketsOf g) (takenBy g t) (s .links) hd tail (s .links .pv tail)
       go (inl y) = absurd (z (rw (← (w .ist), y) (w .over (w .h) (omega arith) (w .way .top))))
@@ -45,7 +44,7 @@ module _ {g : Ghost} {s : St} (v : Inv g s) (t : ℕ) where
   commit {hd} {tail} e = turn g s v t (store tail 0) it (never refl)
     where
       w : AsideAt (ticketsOf g) (takenBy g t) (s .links) hd tail
-      w = role-knows v t (aside hd tail) e
+      w = role-knows v t e
 
       it : StoreAt (takenBy g t) (s .links) tail 0
       it = record {
@@ -66,7 +65,7 @@ module _ {g : Ghost} {s : St} (v : Inv g s) (t : ℕ) where
       (record { it = w; r = p; isr = is; low = omega (arith, w .top); top = omega arith }) (never refl)
     where
       w : AsideAt (ticketsOf g) (takenBy g t) (s .links) hd tail
-      w = role-knows v t (aside hd tail) e
+      w = role-knows v t e
 
   -- the owner stores prev in its head; tk hd is the head's ticket
   pub set-aside : {hd tail prev : ℕ} → s .role t ≡ split hd tail prev → Lonely s t
@@ -78,12 +77,12 @@ module _ {g : Ghost} {s : St} (v : Inv g s) (t : ℕ) where
       (parts-aside (v .parts) t h (omega (arith, w .more, f .top)) (w .it .ground))
       (rw (w .it .ish, w .isp) at (Queue.set-aside (live v t) (v .queue) h f (w .more) (w .it .over)))
       (rw (upd-same (g .taken) t (oldestSpan g)) it) (never refl)
-      λ u ne. spared-queue v t (setTl (s .links) hd prev) h 0 hj (rw (w .it .ish) (only-tl (s .links) hd prev))
+      λ u ne. spared-queue v t hj (rw (w .it .ish) (only-tl (s .links) hd prev))
       (asided g t h) refl u ne (λ z. omega arith) (upd-other (g .taken) t (oldestSpan g) u ne) (never (lone u ne))
-      (λ c. never (lone u ne) (changing-on (s .role u) c)) (λ c. never (lone u ne) (changing-on (s .role u) c)))
+      (never (lonely-quiet s t lone u ne)) (never (lonely-quiet s t lone u ne)))
     where
       w : SplitAt (ticketsOf g) (takenBy g t) (s .links) hd tail prev
-      w = role-knows v t (split hd tail prev) e
+      w = role-knows v t e
 
       h : ℕ
       h = w .it .h
@@ -116,16 +115,16 @@ module _ {g : Ghost} {s : St} (v : Inv g s) (t : ℕ) where
       (rw (a .ish, a .ist)
       at (Queue.restore (live v t) (v .queue) b (a .one) (omega (arith, a .base, a .top)) (a .nxt) (a .prv)
       (a .clean))) (rw (upd-same (g .taken) t (emptySpan b)) it) (never refl)
-      λ u ne. spared-queue v t (setTl (s .links) hd tail) (g .fl) 0 (v .parts .queued (g .fl) (a .base) (a .top))
+      λ u ne. spared-queue v t (v .parts .queued (g .fl) (a .base) (a .top))
       (rw (a .ish) (only-tl (s .links) hd tail)) (restored g t b) refl u ne (λ z. omega arith)
       (upd-other (g .taken) t (emptySpan b) u ne) (never (lone u ne))
-      (λ c. never (lone u ne) (changing-on (s .role u) c)) (λ c. never (lone u ne) (changing-on (s .role u) c))
+      (never (lonely-quiet s t lone u ne)) (never (lonely-quiet s t lone u ne))
     where
       b : ℕ
       b = g .taken t .beg
 
       w : UndoAt (ticketsOf g) (takenBy g t) (s .links) hd tail rp
-      w = role-knows v t (undo hd tail rp) e
+      w = role-knows v t e
 
       a : AsideAt (ticketsOf g) (takenBy g t) (s .links) hd tail
       a = w .it
@@ -158,8 +157,8 @@ module _ {g : Ghost} {s : St} (v : Inv g s) (t : ℕ) where
       taken = agree-refl v t (takenBy g u);
       node = λ _. record { nx = refl; pv = refl; tl = refl };
       still = never (lone u ne);
-      clean = λ c. never (lone u ne) (changing-on (s .role u) c);
-      below = λ c. never (lone u ne) (changing-on (s .role u) c);
+      clean = never (lonely-quiet s t lone u ne);
+      below = never (lonely-quiet s t lone u ne);
     };
     free = v .free u;
   }
@@ -173,7 +172,7 @@ module _ {g : Ghost} {s : St} (v : Inv g s) (t : ℕ) where
       (spared-take lone)
     where
       w : HeadAt changes (ticketsOf g) (takenBy g t) (s .links) hd tail
-      w = role-knows v t (head changes hd tail) e
+      w = role-knows v t e
 
       f : Full (ticketsOf g) (s .links) (w .h)
       f = w .way
@@ -198,7 +197,7 @@ module _ {g : Ghost} {s : St} (v : Inv g s) (t : ℕ) where
   pub take-alone : {hd : ℕ} (p : ℕ) → s .role t ≡ none → Lonely s t → suc p ≡ g .hi → g .lo ≤ p → g .log p ≡ hd
       → Inv (took g t) (turned s t (walk alone hd hd))
   take-alone {hd} p e lone at some is =
-      step v t (took g t) (s .links) (s .wait) (walk alone hd hd) (parts-take (v .parts) t (role-knows v t none e))
+      step v t (took g t) (s .links) (s .wait) (walk alone hd hd) (parts-take (v .parts) t (role-knows v t e))
       (Queue.empty-queue (g .log) (g .hi) (s .links)) (rw (upd-same (g .taken) t (wholeSpan g)) it) (never refl)
       (spared-take lone)
     where
@@ -242,7 +241,7 @@ module _ {g : Ghost} {s : St} (v : Inv g s) (t : ℕ) where
       b = g .taken t .end
 
       w : WakeAt (takenBy g t) (s .links) cu
-      w = role-knows v t (wake cu) e
+      w = role-knows v t e
 
       go : (suc a ≡ b) ⊎ (suc a ≢ b)
           → ((suc a ≡ b) × (s .links .pv cu ≡ 0)) ⊎ ((suc a < b) × (g .log (suc a) ≡ s .links .pv cu))
@@ -284,7 +283,7 @@ module _ {g : Ghost} {s : St} (v : Inv g s) (t : ℕ) where
   complete-more {cu} {prev} e nz = completing cu (w .some) (w .isc) (wake prev) refl (go (w .rest))
     where
       w : StoreAt (takenBy g t) (s .links) cu prev
-      w = role-knows v t (store cu prev) e
+      w = role-knows v t e
 
       go : ((suc (g .taken t .beg) ≡ g .taken t .end) × (prev ≡ 0))
           ⊎ ((suc (g .taken t .beg) < g .taken t .end) × (g .log (suc (g .taken t .beg)) ≡ prev))
@@ -297,7 +296,7 @@ module _ {g : Ghost} {s : St} (v : Inv g s) (t : ℕ) where
   complete-last {cu} e = completing cu (w .some) (w .isc) none refl (go (w .rest))
     where
       w : StoreAt (takenBy g t) (s .links) cu 0
-      w = role-knows v t (store cu 0) e
+      w = role-knows v t e
 
       go : ((suc (g .taken t .beg) ≡ g .taken t .end) × (_≡_ {A = ℕ} 0 0))
           ⊎ ((suc (g .taken t .beg) < g .taken t .end) × (g .log (suc (g .taken t .beg)) ≡ 0))

@@ -297,13 +297,12 @@ module _ {g : Ghost} {wait : ℕ → Bool} (v : Parts g wait) where
             pull z = omega arith
 
         queued′ : (i : ℕ) → b ≤ i → i < g .hi → (i ≡ b) ⊎ (i ≢ b) → Held (restored g t b) wait 0 i
-        queued′ i a k
-            (inl e) = record {
-              own = rw (e, upd-same (g .own) b 0);
-              tk = rw e (it .tk);
-              some = rw e (it .some);
-              waits = rw e (it .waits);
-            }
+        queued′ i a k (inl e) = record {
+          own = rw (e, upd-same (g .own) b 0);
+          tk = rw e (it .tk);
+          some = rw e (it .some);
+          waits = rw e (it .waits);
+        }
         queued′ i a k (inr ne) = keep 0 i ne (v .queued i (omega arith) k)
 
         somewhere : (i : ℕ) → Somewhere g i → Somewhere (restored g t b) i
@@ -382,6 +381,5 @@ module _ {g : Ghost} {wait : ℕ → Bool} (v : Parts g wait) where
             → (g .log (g .tk k) ≡ k) × Somewhere (completed g t) (g .tk k)
         cover′ k (inl e) w = absurd (false≢true (sym (upd-same wait (g .log at) false) ∙ (rw e at w)))
         cover′ k (inr ne) w =
-            let c : (g .log (g .tk k) ≡ k)
-            × Somewhere g (g .tk k) = v .cover k (rw (upd-other wait (g .log at) false k ne) at w) in
+            let c = v .cover k (rw (upd-other wait (g .log at) false k ne) at w) in
             (c .0, somewhere (g .tk k) (λ e. ne (sym (c .0) ∙ ap (g .log) e)) (c .1))

@@ -12,9 +12,10 @@ use Rattle.queue.specs.Queue.{Links, linkIn, Interval, Live, Queue, Walk
 use Rattle.queue.specs.Queue
 use Rattle.queue.specs.Tickets.{Ghost, ticketsOf, takenBy, Held, live-taken}
 use Rattle.queue.specs.Roles.{WalkKind, looks, changes, alone, Role, none, walk, past, link, head, wake, public}
-use Rattle.queue.specs.Roles.{filled, walkedOn, Ground, Over, WalkAt, PastAt, LinkAt, HeadAt, Know}
+use Rattle.queue.specs.Roles.{filled, Ground, Over, WalkAt, PastAt, LinkAt, HeadAt, Know}
 use Rattle.queue.specs.Invariant.{St, Inv, Quiet, Only, only-nx, only-pv, only-tl, step, turn, role-knows, live}
 use Rattle.queue.specs.Invariant.{live-on, queue-on, queue-apart, spared-queue, spared-own, turned, relinked}
+use Rattle.queue.specs.Invariant.{walkedBy}
 
 module _ {g : Ghost} {s : St} (v : Inv g s) (t : ℕ) where
   pub begin : (k : WalkKind) → public k ≡ true → (hd p : ℕ) → s .role t ≡ none → suc p ≡ g .hi → g .lo ≤ p
@@ -32,14 +33,14 @@ module _ {g : Ghost} {s : St} (v : Inv g s) (t : ℕ) where
       }
 
       it : (k : WalkKind) → public k ≡ true → WalkAt k (ticketsOf g) (takenBy g t) (s .links) hd hd
-      it looks _ = record { h = p; c = p; ish = is; isc = is; way = w; ground = role-knows v t none e; over = tt }
+      it looks _ = record { h = p; c = p; ish = is; isc = is; way = w; ground = role-knows v t e; over = tt }
       it changes _ = record {
         h = p;
         c = p;
         ish = is;
         isc = is;
         way = w;
-        ground = role-knows v t none e;
+        ground = role-knows v t e;
         over = λ i a b. let z : i ≡ p = omega arith in rw z (v .queue .newest p at some);
       }
       it alone x = absurd (false≢true x)
@@ -49,10 +50,10 @@ module _ {g : Ghost} {s : St} (v : Inv g s) (t : ℕ) where
   load-none {k} {hd} {cu} e z = turn g s v t (past k hd cu) (it (pred (w .c)) (omega (arith, up))) (never refl)
     where
       x : Interval
-      x = walkedOn k (ticketsOf g) (takenBy g t)
+      x = walkedBy k g t
 
       w : WalkAt k (ticketsOf g) (takenBy g t) (s .links) hd cu
-      w = role-knows v t (walk k hd cu) e
+      w = role-knows v t e
 
       up : x .fl < w .c
       up = Queue.stands-above (live-on v t k) (queue-on v t k (w .ground)) (w .h) (w .c) (w .way) (rw (w .isc) z)
@@ -74,10 +75,10 @@ module _ {g : Ghost} {s : St} (v : Inv g s) (t : ℕ) where
   load-tail {k} {hd} {cu} e z = turn g s v t (head k hd (s .links .tl cu)) it (never refl)
     where
       x : Interval
-      x = walkedOn k (ticketsOf g) (takenBy g t)
+      x = walkedBy k g t
 
       w : WalkAt k (ticketsOf g) (takenBy g t) (s .links) hd cu
-      w = role-knows v t (walk k hd cu) e
+      w = role-knows v t e
 
       y : (s .links .tl (x .log (w .c)) ≡ x .log (x .lo)) × Full x (s .links) (w .h)
       y = Queue.found (live-on v t k) (queue-on v t k (w .ground)) (w .h) (w .c) (w .way) (rw (w .isc) z)
@@ -98,11 +99,11 @@ module _ {g : Ghost} {s : St} (v : Inv g s) (t : ℕ) where
       turn g s v t (link k hd cu (linkIn (s .links .nx cu))) (record { past = w; isn = it }) (never refl)
     where
       w : PastAt k (ticketsOf g) (takenBy g t) (s .links) hd cu
-      w = role-knows v t (past k hd cu) e
+      w = role-knows v t e
 
-      it : walkedOn k (ticketsOf g) (takenBy g t) .log (w .d) ≡ linkIn (s .links .nx cu)
+      it : walkedBy k g t .log (w .d) ≡ linkIn (s .links .nx cu)
       it =
-          let y : Walker (walkedOn k (ticketsOf g) (takenBy g t)) (s .links) (w .h) (suc (w .d)) = w .way in
+          let y : Walker (walkedBy k g t) (s .links) (w .h) (suc (w .d)) = w .way in
           sym (queue-on v t k (w .ground) .next (w .d) (omega (arith, w .low)) (omega arith))
           ∙ ap (λ z. linkIn (s .links .nx z)) (w .isc)
 
@@ -114,11 +115,11 @@ module _ {g : Ghost} {s : St} (v : Inv g s) (t : ℕ) where
       (never refl)
     where
       w : WalkAt changes (ticketsOf g) (takenBy g t) (s .links) hd cu
-      w = role-knows v t (walk changes hd cu) e
+      w = role-knows v t e
 
   -- who has found the tail may leave it at that
   pub leave : {k : WalkKind} {hd tail : ℕ} → public k ≡ true → s .role t ≡ head k hd tail → Inv g (turned s t none)
-  leave {k} {hd} {tail} pk e = turn g s v t none (it k pk (role-knows v t (head k hd tail) e)) (never refl)
+  leave {k} {hd} {tail} pk e = turn g s v t none (it k pk (role-knows v t e)) (never refl)
     where
       it : (k : WalkKind) → public k ≡ true → HeadAt k (ticketsOf g) (takenBy g t) (s .links) hd tail
           → g .taken t .end ≤ g .taken t .beg
@@ -127,83 +128,72 @@ module _ {g : Ghost} {s : St} (v : Inv g s) (t : ℕ) where
       it alone x w = absurd (false≢true x)
 
   -- a walker stores the prev of the node that it goes on to
-  prev-on : (k : WalkKind) (hd h d : ℕ) → walkedOn k (ticketsOf g) (takenBy g t) .log h ≡ hd
-      → walkedOn k (ticketsOf g) (takenBy g t) .fl ≤ d
-      → Walker (walkedOn k (ticketsOf g) (takenBy g t)) (s .links) h (suc d) → Ground k (takenBy g t) (s .links)
-      → Over k (walkedOn k (ticketsOf g) (takenBy g t)) (s .links) h → (public k ≡ true → Quiet s t) →
-      Inv g (relinked s t (setPv (s .links) (g .log d) (g .log (suc d))) (walk k hd (g .log d)))
-  prev-on k hd h d ish low w gr ov qt = go k ish low w gr ov qt
-    where
-      main : (dl : g .lo ≤ d) (dh : suc d < g .hi) → Quiet s t → (k : WalkKind)
-          → WalkAt k (ticketsOf g) (takenBy g t) (setPv (s .links) (g .log d) (g .log (suc d))) hd (g .log d)
-          → Inv g (relinked s t (setPv (s .links) (g .log d) (g .log (suc d))) (walk k hd (g .log d)))
-      main dl dh qt k w =
-          step v t g (setPv (s .links) (g .log d) (g .log (suc d))) (s .wait) (walk k hd (g .log d)) (v .parts)
-          (Queue.store-pv (live v t) (v .queue) d dl dh) w (never refl) λ u ne.
-          spared-queue v t (setPv (s .links) (g .log d) (g .log (suc d))) d 0 (v .parts .queued d dl (omega arith))
-          (only-pv (s .links) (g .log d) (g .log (suc d))) g refl u ne (λ e. omega arith) refl
-          (λ _. record {
-            lo = refl;
-            fl = refl;
-            hi = omega arith;
-            log = λ i a b. refl;
-            back = λ i a b e. Queue.pv-right (live v t) (v .queue) d dl dh i a (omega arith) e;
-          })
-          (never (qt u ne))
-          (never (qt u ne))
+  abbrev backlinked : ℕ → Links
+  backlinked d = setPv (s .links) (g .log d) (g .log (suc d))
 
-      go : (k : WalkKind) → walkedOn k (ticketsOf g) (takenBy g t) .log h ≡ hd
-          → walkedOn k (ticketsOf g) (takenBy g t) .fl ≤ d
-          → Walker (walkedOn k (ticketsOf g) (takenBy g t)) (s .links) h (suc d) → Ground k (takenBy g t) (s .links)
-          → Over k (walkedOn k (ticketsOf g) (takenBy g t)) (s .links) h → (public k ≡ true → Quiet s t) →
-          Inv g (relinked s t (setPv (s .links) (g .log d) (g .log (suc d))) (walk k hd (g .log d)))
-      go looks ish low w gr ov qt =
-          let dl : g .lo ≤ d = omega arith in
-          let dh : suc d < g .hi = omega arith in
-          main dl dh (qt refl) looks
-          (record {
-            h = h;
-            c = d;
-            ish = ish;
-            isc = refl;
-            way = Queue.walk-pv (live v t) (v .queue) d dl dh h low w;
-            ground = gr;
-            over = tt;
-          })
-      go changes ish low w gr ov qt =
-          let dl : g .lo ≤ d = omega arith in
-          let dh : suc d < g .hi = omega arith in
-          main dl dh (qt refl) changes (record {
-            h = h;
-            c = d;
-            ish = ish;
-            isc = refl;
-            way = Queue.walk-pv (live v t) (v .queue) d dl dh h low w;
-            ground = gr;
-            over = Queue.clean-pv (live v t) (v .queue) d dl dh h (omega arith) ov;
-          })
-      go alone ish low w gr ov qt =
-          let dl : g .taken t .beg ≤ d = omega arith in
-          let dh : suc d < g .taken t .end = omega arith in
-          let hd′ : Held g (s .wait) (suc t) d = v .parts .held t d dl (omega arith) .1 in
-          let lv : Live (takenBy g t) = live-taken (v .parts) t in
-          let on′ : Only (s .links) (setPv (s .links) (g .log d) (g .log (suc d))) (g .log d) = only-pv (s .links)
-          (g .log d) (g .log (suc d)) in
-          step v t g (setPv (s .links) (g .log d) (g .log (suc d))) (s .wait) (walk alone hd (g .log d)) (v .parts)
-          (Queue.queue-agree
-          (queue-apart v t (setPv (s .links) (g .log d) (g .log (suc d))) d (suc t) hd′ on′ (λ z. omega arith))
-          (v .queue))
-          (record {
-            h = h;
-            c = d;
-            ish = ish;
-            isc = refl;
-            way = Queue.walk-pv lv gr d dl dh h low w;
-            ground = Queue.store-pv lv gr d dl dh;
-            over = ov;
-          })
-          (never refl)
-          (spared-own v t (setPv (s .links) (g .log d) (g .log (suc d))) d (suc t) hd′ on′ refl)
+  prev-public : (k : WalkKind) (hd d : ℕ) → g .lo ≤ d → suc d < g .hi → Quiet s t
+      → WalkAt k (ticketsOf g) (takenBy g t) (backlinked d) hd (g .log d)
+      → Inv g (relinked s t (backlinked d) (walk k hd (g .log d)))
+  prev-public k hd d dl dh qt w =
+      step v t g (backlinked d) (s .wait) (walk k hd (g .log d)) (v .parts)
+      (Queue.store-pv (live v t) (v .queue) d dl dh) w (never refl) λ u ne.
+      spared-queue v t (v .parts .queued d dl (omega arith)) (only-pv (s .links) (g .log d) (g .log (suc d))) g refl
+      u ne
+      (λ e. omega arith) refl
+      (λ _. record {
+        lo = refl;
+        fl = refl;
+        hi = omega arith;
+        log = λ i a b. refl;
+        back = λ i a b e. Queue.pv-right (live v t) (v .queue) d dl dh i a (omega arith) e;
+      })
+      (never (qt u ne)) (never (qt u ne))
+
+  prev-on : (k : WalkKind) (hd h d : ℕ) → walkedBy k g t .log h ≡ hd → walkedBy k g t .fl ≤ d
+      → Walker (walkedBy k g t) (s .links) h (suc d) → Ground k (takenBy g t) (s .links)
+      → Over k (walkedBy k g t) (s .links) h → (public k ≡ true → Quiet s t)
+      → Inv g (relinked s t (backlinked d) (walk k hd (g .log d)))
+  prev-on looks hd h d ish low w gr ov qt =
+      let dl : g .lo ≤ d = omega arith in
+      let dh : suc d < g .hi = omega arith in
+      prev-public looks hd d dl dh (qt refl) (record {
+        h = h;
+        c = d;
+        ish = ish;
+        isc = refl;
+        way = Queue.walk-pv (live v t) (v .queue) d dl dh h low w;
+        ground = gr;
+        over = tt;
+      })
+  prev-on changes hd h d ish low w gr ov qt =
+      let dl : g .lo ≤ d = omega arith in
+      let dh : suc d < g .hi = omega arith in
+      prev-public changes hd d dl dh (qt refl) (record {
+        h = h;
+        c = d;
+        ish = ish;
+        isc = refl;
+        way = Queue.walk-pv (live v t) (v .queue) d dl dh h low w;
+        ground = gr;
+        over = Queue.clean-pv (live v t) (v .queue) d dl dh h (omega arith) ov;
+      })
+  prev-on alone hd h d ish low w gr ov qt =
+      let dl : g .taken t .beg ≤ d = omega arith in
+      let dh : suc d < g .taken t .end = omega arith in
+      let mine : Held g (s .wait) (suc t) d = v .parts .held t d dl (omega arith) .1 in
+      let lv : Live (takenBy g t) = live-taken (v .parts) t in
+      let there : Only (s .links) (backlinked d) (g .log d) = only-pv (s .links) (g .log d) (g .log (suc d)) in
+      step v t g (backlinked d) (s .wait) (walk alone hd (g .log d)) (v .parts)
+      (Queue.queue-agree (queue-apart v t mine there (λ z. omega arith)) (v .queue))
+      (record {
+        h = h;
+        c = d;
+        ish = ish;
+        isc = refl;
+        way = Queue.walk-pv lv gr d dl dh h low w;
+        ground = Queue.store-pv lv gr d dl dh;
+        over = ov;
+      }) (never refl) (spared-own v t mine there refl)
 
   pub store-prev : {k : WalkKind} {hd cu nn : ℕ} → s .role t ≡ link k hd cu nn → (public k ≡ true → Quiet s t)
       → Inv g (relinked s t (setPv (s .links) nn cu) (walk k hd nn))
@@ -214,9 +204,9 @@ module _ {g : Ghost} {s : St} (v : Inv g s) (t : ℕ) where
       (w .past .over) qt)
     where
       w : LinkAt k (ticketsOf g) (takenBy g t) (s .links) hd cu nn
-      w = role-knows v t (link k hd cu nn) e
+      w = role-knows v t e
 
-      log-on : (k : WalkKind) (i : ℕ) → g .log i ≡ walkedOn k (ticketsOf g) (takenBy g t) .log i
+      log-on : (k : WalkKind) (i : ℕ) → g .log i ≡ walkedBy k g t .log i
       log-on looks i = refl
       log-on changes i = refl
       log-on alone i = refl
@@ -229,7 +219,7 @@ module _ {g : Ghost} {s : St} (v : Inv g s) (t : ℕ) where
       → Queue (ticketsOf g) l′ → (r : Role)
       → Know (ticketsOf g) (takenBy g t) l′ t r → filled r ≡ false → Inv g (relinked s t l′ r)
   tail-on l′ h z el a b q r k f = step v t g l′ (s .wait) r (v .parts) q k (never f) λ u ne.
-      spared-queue v t l′ h 0 (v .parts .queued h a b) (rw el (only-tl (s .links) (g .log h) z)) g refl u ne
+      spared-queue v t (v .parts .queued h a b) (rw el (only-tl (s .links) (g .log h) z)) g refl u ne
       (λ e. omega arith) refl
       (λ _. record { lo = refl; fl = refl; hi = omega arith; log = λ i x y. refl; back = λ i x y e. rw el e })
       (λ _ i x c j y o. rw el (c j y o))
@@ -237,7 +227,7 @@ module _ {g : Ghost} {s : St} (v : Inv g s) (t : ℕ) where
 
   pub store-tail : {k : WalkKind} {hd tail : ℕ} → public k ≡ true → s .role t ≡ head k hd tail
       → Inv g (relinked s t (setTl (s .links) hd tail) (head k hd tail))
-  store-tail {k} {hd} {tail} pk e = go k pk (role-knows v t (head k hd tail) e)
+  store-tail {k} {hd} {tail} pk e = go k pk (role-knows v t e)
     where
       go : (k : WalkKind) → public k ≡ true → HeadAt k (ticketsOf g) (takenBy g t) (s .links) hd tail
           → Inv g (relinked s t (setTl (s .links) hd tail) (head k hd tail))
@@ -275,7 +265,7 @@ module _ {g : Ghost} {s : St} (v : Inv g s) (t : ℕ) where
       let hj : Held g (s .wait) (suc t) (w .h) = v .parts .held t (w .h) (omega arith) (omega arith) .1 in
       let on′ : Only (s .links) (setTl (s .links) hd tail) (g .log (w .h)) = rw (w .ish) (only-tl (s .links) hd tail) in
       step v t g (setTl (s .links) hd tail) (s .wait) (wake tail) (v .parts)
-      (Queue.queue-agree (queue-apart v t (setTl (s .links) hd tail) (w .h) (suc t) hj on′ (λ z. omega arith))
+      (Queue.queue-agree (queue-apart v t hj on′ (λ z. omega arith))
       (v .queue))
       (record {
         some = omega arith;
@@ -286,10 +276,10 @@ module _ {g : Ghost} {s : St} (v : Inv g s) (t : ℕ) where
         };
       })
       (never refl)
-      (spared-own v t (setTl (s .links) hd tail) (w .h) (suc t) hj on′ refl)
+      (spared-own v t hj on′ refl)
     where
       w : HeadAt alone (ticketsOf g) (takenBy g t) (s .links) hd tail
-      w = role-knows v t (head alone hd tail) e
+      w = role-knows v t e
 
   -- a contended reader subtracts: the oldest's next is nobody's link
   pub subtract : {hd tail : ℕ} (n : ℕ) → s .role t ≡ head looks hd tail → Quiet s t
@@ -300,14 +290,14 @@ module _ {g : Ghost} {s : St} (v : Inv g s) (t : ℕ) where
       subst (λ x. Inv g (relinked s t (setNx (s .links) x n) none)) (w .ist)
       (step v t g (setNx (s .links) (g .log (g .lo)) n) (s .wait) none (v .parts) queue′ (w .ground) (never refl)
       λ u ne.
-      spared-queue v t (setNx (s .links) (g .log (g .lo)) n) (g .lo) 0 hj (only-nx (s .links) (g .log (g .lo)) n) g
+      spared-queue v t hj (only-nx (s .links) (g .log (g .lo)) n) g
       refl u ne (λ z. omega arith) refl
       (λ _. record { lo = refl; fl = refl; hi = omega arith; log = λ i x y. refl; back = λ i x y z. z })
       (λ _ i x c. c)
       (never (qt u ne)))
     where
       w : HeadAt looks (ticketsOf g) (takenBy g t) (s .links) hd tail
-      w = role-knows v t (head looks hd tail) e
+      w = role-knows v t e
 
       queue′ : Queue (ticketsOf g) (setNx (s .links) (g .log (g .lo)) n)
       queue′ =
