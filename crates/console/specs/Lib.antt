@@ -1,1 +1,10 @@
+pub mod Input
 pub mod Output
+pub mod Pages
+pub mod Moves
+pub mod Filling
+pub mod Runs
+pub mod Written
+pub mod Paging
+pub mod ThreadLines
+pub mod Printing

@@ -1,6 +1,8 @@
 // The bytes of a named file, of the one that the first argument names, or of standard input where there is none.
 ghost use mathlib.Core.Path.{_≡_};
+ghost use lib.ListN.{length};
 ghost use Rattle.io.specs.Counts.{Counts};
+ghost use Rattle.console.specs.Input.{ReadBy, unreadableOf};
 
 // One byte more than the largest file that is looked at.
 pub const ENOUGH: usize = 60007;
@@ -19,7 +21,7 @@ pub struct Received {
 }
 
 fn unreadable(what: &[u8]) -> Received
-    ensures { λ r. ⌜ r .length ≡ 0 ⌝ }
+    ensures { λ r. ⌜ r ≡ unreadableOf ⌝ }
 {
     os::fail(what);
     Received {
@@ -31,6 +33,7 @@ fn unreadable(what: &[u8]) -> Received
 // A short count is the end of the input or a failure, and one more read tells which.
 fn read(fd: i32, name: &[u8], bytes: &mut [u8]) -> Received
     ensures { λ r. ⌜ Counts (r .length) (now (bytes .exit)) ⌝ }
+    ensures { λ r. ⌜ ReadBy (r .reading) (r .length) (length (now (bytes .exit))) ⌝ }
 {
     let length = io::read_full(fd, bytes);
     if length == bytes.len() {
@@ -52,6 +55,7 @@ fn read(fd: i32, name: &[u8], bytes: &mut [u8]) -> Received
 // The bytes of the file of that name.
 pub fn receive_named(path: &[u8], bytes: &mut [u8]) -> Received
     ensures { λ r. ⌜ Counts (r .length) (now (bytes .exit)) ⌝ }
+    ensures { λ r. ⌜ ReadBy (r .reading) (r .length) (length (now (bytes .exit))) ⌝ }
 {
     let fd = os::open_read(path);
     if fd < 0 {
@@ -64,6 +68,7 @@ pub fn receive_named(path: &[u8], bytes: &mut [u8]) -> Received
 
 fn argument(bytes: &mut [u8]) -> Received
     ensures { λ r. ⌜ Counts (r .length) (now (bytes .exit)) ⌝ }
+    ensures { λ r. ⌜ ReadBy (r .reading) (r .length) (length (now (bytes .exit))) ⌝ }
 {
     let mut path = io::buffer();
     let length = os::arg(1, &mut path);
@@ -75,6 +80,7 @@ fn argument(bytes: &mut [u8]) -> Received
 
 pub fn receive(bytes: &mut [u8]) -> Received
     ensures { λ r. ⌜ Counts (r .length) (now (bytes .exit)) ⌝ }
+    ensures { λ r. ⌜ ReadBy (r .reading) (r .length) (length (now (bytes .exit))) ⌝ }
 {
     if os::arg_count() < 2 {
         return read(libc::STDIN_FILENO, b"standard input", bytes);

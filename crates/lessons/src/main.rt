@@ -1,10 +1,8 @@
 // The trace of every lesson's schedule (lessons/), each under its name.
-use console::Reading;
 use console::input::ENOUGH;
 use console::input::receive_named;
 use console::output::write_line;
-use console::runs::too_long;
-use console::runs::trace;
+use console::runs::trace_received;
 use print::Line;
 
 fn lesson(name: &[u8]) {
@@ -12,11 +10,7 @@ fn lesson(name: &[u8]) {
     let mut file = [0u8; ENOUGH];
     let got = receive_named(name, &mut file);
     let reading = got.reading;
-    match reading {
-        Reading::Unreadable => (),
-        Reading::Full => too_long(),
-        Reading::Whole => trace(&file[..got.length]),
-    }
+    trace_received(reading, &file[..got.length]);
 }
 
 fn main() {

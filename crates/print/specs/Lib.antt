@@ -1,6 +1,11 @@
 pub mod Text
 pub mod Line
 pub mod Replayed
+pub mod Whole
+pub mod Statements
+pub mod WholeLaws
+pub mod Theorems
+pub mod WrongPrint
 pub mod Page
 pub mod PageLaws
 pub mod Laws

@@ -1,4 +1,5 @@
--- What a line shows: the text that it is made of, where that fits; and that a number's digits are its own. Assumes nothing.
+-- What a line shows: the text that it is made of, where that fits; that a number's digits are its own; and that
+-- document 01's lines fit, with their ends. Assumes nothing.
 use Prim.Native.Nat.{ℕ, zero, suc, _+_, _-_, _*_, _/_, _%_, _^_, _≤_, _<_}
 use mathlib.Core.Path.{_≡_, refl, sym, ap, _∙_}
 use mathlib.Core.List.{List, [], _∷_, _++_, append-nil}
@@ -13,33 +14,51 @@ use Rattle.word.specs.declared.flags.Word.{Word}
 use Rattle.word.specs.declared.number.ThreadNumber.{ThreadNumber}
 use Rattle.word.specs.declared.number.Owner.{Owner}
 use Rattle.word.specs.declared.number.Owner.the-variants.{Nobody, Thread}
-use Rattle.state.specs.Answer.{answerWord}
+use Rattle.state.specs.Answer.{answerWord, refusalNumber}
 use Rattle.state.specs.declared.answer.Answer.{Answer}
 use Rattle.state.specs.declared.answer.Answer.the-variants.{Begun, Went, Done, Yes, No}
+use Rattle.schedule.specs.File.{fileNumber}
+use Rattle.schedule.specs.declared.whole.FileStop.{FileStop}
+use Rattle.schedule.specs.declared.whole.FileStop.the-variants as Stop
 use Rattle.print.specs.Text.{ascii, decimalBy, decimal}
-use Rattle.print.specs.Line.{lineWidth, putOf, putAll, shown, lineOf}
+use Rattle.print.specs.Line.{lineWidth, blankOf, putOf, putAll, shown, lineOf}
 use Rattle.print.specs.Laws.{digits-none, digits-one, digits-more}
-use Rattle.print.specs.Replayed.{wokenText, eventText}
+use Rattle.print.specs.Replayed.{wokenText, eventText, refusedText}
+use Rattle.print.specs.Whole.{stopText}
 use Rattle.print.specs.declared.line.Line.{Line}
 
 -- ── a line's text ──
 
-put-fits : (l : Line) (b : ℕ) → l .length < lineWidth → putOf l b ≡ record { bytes = set (l .bytes) (l .length) b; length = l .length + 1 }
+put-fits :
+    (l : Line) (b : ℕ) → l .length < lineWidth
+    → putOf l b ≡ record { bytes = set (l .bytes) (l .length) b; length = l .length + 1 }
 put-fits l b h = sym (pick-yes _ _ _ _ (lt-ltb (l .length) lineWidth h) refl)
 
 -- one byte more
-shown-byte : (l : Line) (b : ℕ) → length (l .bytes) ≡ lineWidth → l .length < lineWidth → shown (putOf l b) ≡ shown l ++ (b ∷ [])
+shown-byte :
+    (l : Line) (b : ℕ) → length (l .bytes) ≡ lineWidth → l .length < lineWidth
+    → shown (putOf l b) ≡ shown l ++ (b ∷ [])
 shown-byte l b w h =
     let e : l .length + 1 ≡ suc (l .length) = omega arith in
-    ap shown (put-fits l b h) ∙ ap (λ (k : ℕ). take k (set (l .bytes) (l .length) b)) e ∙ take-suc-set (l .bytes) (l .length) b (omega (arith, w, h))
+    ap shown (put-fits l b h)
+    ∙ ap (λ (k : ℕ). take k (set (l .bytes) (l .length) b)) e
+    ∙ take-suc-set (l .bytes) (l .length) b (omega (arith, w, h))
 
-pub shown-text : (xs : List ℕ) (l : Line) → length (l .bytes) ≡ lineWidth → l .length + length xs ≤ lineWidth → shown (putAll l xs) ≡ shown l ++ xs
+-- a byte more, in as many as before
+put-wide :
+    (l : Line) (b : ℕ) → length (l .bytes) ≡ lineWidth → l .length < lineWidth
+    → length (putOf l b .bytes) ≡ lineWidth
+put-wide l b w h = ap (λ (k : Line). length (k .bytes)) (put-fits l b h) ∙ length-set (l .bytes) (l .length) b ∙ w
+
+pub shown-text :
+    (xs : List ℕ) (l : Line) → length (l .bytes) ≡ lineWidth → l .length + length xs ≤ lineWidth
+    → shown (putAll l xs) ≡ shown l ++ xs
 unfolding putAll
 shown-text [] l w h = sym (append-nil (shown l))
 shown-text (x ∷ xs) l w h =
     let room : l .length < lineWidth = omega (arith, h) in
     let next = put-fits l x room in
-    let wide : length (putOf l x .bytes) ≡ lineWidth = ap (λ (k : Line). length (k .bytes)) next ∙ length-set (l .bytes) (l .length) x ∙ w in
+    let wide = put-wide l x w (omega (arith, h)) in
     let long : putOf l x .length ≡ l .length + 1 = ap (λ (k : Line). k .length) next in
     shown-text xs (putOf l x) wide (omega (arith, h, long))
     ∙ ap (λ (s : List ℕ). s ++ xs) (shown-byte l x w room)
@@ -48,6 +67,27 @@ shown-text (x ∷ xs) l w h =
 -- a line of a text shows that text
 pub line-shows : (xs : List ℕ) → length xs ≤ lineWidth → shown (lineOf xs) ≡ xs
 line-shows xs h = shown-text xs _ refl (omega (arith, h))
+
+-- so many bytes more, in as many as before
+put-holds :
+    (xs : List ℕ) (l : Line) → length (l .bytes) ≡ lineWidth → l .length + length xs ≤ lineWidth
+    → (putAll l xs .length ≡ l .length + length xs) × (length (putAll l xs .bytes) ≡ lineWidth)
+unfolding putAll
+put-holds [] l w h = (omega arith, w)
+put-holds (x ∷ xs) l w h =
+    let next = put-fits l x (omega (arith, h)) in
+    let wide = put-wide l x w (omega (arith, h)) in
+    let long : putOf l x .length ≡ l .length + 1 = ap (λ (k : Line). k .length) next in
+    let rest = put-holds xs (putOf l x) wide (omega (arith, h, long)) in
+    (omega (arith, rest .0, long), rest .1)
+
+-- a line of a text has its length, in bytes of a line
+pub line-holds :
+    (xs : List ℕ) → length xs ≤ lineWidth
+    → (lineOf xs .length ≡ length xs) × (length (lineOf xs .bytes) ≡ lineWidth)
+line-holds xs h =
+    let held = put-holds xs blankOf refl (omega (arith, h)) in
+    (omega (arith, held .0), held .1)
 
 -- ── a number's digits ──
 
@@ -66,14 +106,16 @@ digits-value zero n h =
     ap (valueFrom 0) (sym (digits-none 0 n refl)) ∙ sym none
 digits-value (suc places) n h = by (decLt n 10) (digits-value places (n / 10))
   where
-    by : Dec (n < 10) → (n / 10 < 10 ^ places → valueFrom 0 (decimalBy places (n / 10)) ≡ n / 10) → valueFrom 0 (decimalBy (suc places) n) ≡ n
+    by :
+        Dec (n < 10) → (n / 10 < 10 ^ places → valueFrom 0 (decimalBy places (n / 10)) ≡ n / 10)
+        → valueFrom 0 (decimalBy (suc places) n) ≡ n
     by (yes few) rest =
         let last : 10 * 0 + (48 + n - 48) ≡ n = omega arith in
         ap (valueFrom 0) (sym (digits-one (suc places) n (omega arith) few)) ∙ last
     by (no many) rest =
         let less : suc places - 1 ≡ places = omega arith in
         let below : n / 10 < 10 ^ places = omega (arith, h, pow-suc 10 places) in
-        let front : valueFrom 0 (decimalBy (suc places - 1) (n / 10)) ≡ n / 10 = ap (λ (p : ℕ). valueFrom 0 (decimalBy p (n / 10))) less ∙ rest below in
+        let front = ap (λ (p : ℕ). valueFrom 0 (decimalBy p (n / 10))) less ∙ rest below in
         let whole : 10 * (n / 10) + (48 + n % 10 - 48) ≡ n = omega arith in
         ap (valueFrom 0) (sym (digits-more (suc places) n (omega arith) (omega (arith, many))))
         ∙ value-end (decimalBy (suc places - 1) (n / 10)) 0 (48 + n % 10)
@@ -86,7 +128,7 @@ decimal-value n h = digits-value 20 n (omega (arith, h))
 
 -- ── document 01's line fits ──
 
-digits-few : (places n : ℕ) → length (decimalBy places n) ≤ places
+pub digits-few : (places n : ℕ) → length (decimalBy places n) ≤ places
 digits-few zero n = omega (arith, ap length (sym (digits-none 0 n refl)))
 digits-few (suc places) n = by (decLt n 10) (digits-few places (n / 10))
   where
@@ -109,14 +151,32 @@ woken-short : (w : Owner) → length (wokenText w) ≤ 20
 woken-short Nobody = omega arith
 woken-short (Thread t) = digits-few 20 (t .0)
 
+-- a digit is one
+pub digit-one : (n : ℕ) → n < 10 → length (decimal n) ≡ 1
+digit-one n h = ap length (sym (digits-one 20 n (omega arith) h))
+
 -- a text, a space and a text
 spaced : (xs ys : List ℕ) (a b : ℕ) → length xs ≤ a → length ys ≤ b → length (xs ++ ascii " " ++ ys) ≤ a + 1 + b
 spaced xs ys a b h k = omega (arith, h, k, length-append (xs ++ ascii " ") ys, length-append xs (ascii " "))
 
-pub event-text-fits : (at : ℕ) (thread : ThreadNumber) (answer : Answer) (woken : Owner) (word : Word) → length (eventText at thread answer woken word) ≤ lineWidth
-event-text-fits at thread answer woken word =
-    let threaded = spaced (decimal at) (decimal (thread .0)) 20 20 (digits-few 20 at) (digits-few 20 (thread .0)) in
-    let answered = spaced (decimal at ++ ascii " " ++ decimal (thread .0)) (answerWord answer) 41 5 threaded (answer-short answer) in
-    let woke = spaced (decimal at ++ ascii " " ++ decimal (thread .0) ++ ascii " " ++ answerWord answer) (wokenText woken) 47 20 answered (woken-short woken) in
-    let all = spaced (decimal at ++ ascii " " ++ decimal (thread .0) ++ ascii " " ++ answerWord answer ++ ascii " " ++ wokenText woken) (decimal (word .0)) 68 20 woke (digits-few 20 (word .0)) in
-    omega (arith, all)
+module _ (at : ℕ) (thread : ThreadNumber) (answer : Answer) (woken : Owner) (word : Word) where
+  pub event-text-short : length (eventText at thread answer woken word) ≤ 89
+  event-text-short =
+      let threaded = decimal at ++ ascii " " ++ decimal (thread .0) in
+      let answered = threaded ++ ascii " " ++ answerWord answer in
+      let woke = answered ++ ascii " " ++ wokenText woken in
+      let a = spaced (decimal at) (decimal (thread .0)) 20 20 (digits-few 20 at) (digits-few 20 (thread .0)) in
+      let b = spaced threaded (answerWord answer) 41 5 a (answer-short answer) in
+      let c = spaced answered (wokenText woken) 47 20 b (woken-short woken) in
+      spaced woke (decimal (word .0)) 68 20 c (digits-few 20 (word .0))
+
+  pub event-text-fits : length (eventText at thread answer woken word) ≤ lineWidth
+  event-text-fits = omega (arith, event-text-short)
+
+pub refused-text-short : (number : ℕ) → length (refusedText number) ≤ 28
+refused-text-short number = omega (arith, digits-few 20 number, length-append (ascii "refused ") (decimal number))
+
+pub stop-text-short : (run : ℕ) (stop : FileStop) → length (stopText run stop) ≤ 28
+stop-text-short run Stop.Ran = omega (arith, digits-few 20 run, length-append (ascii "end ") (decimal run))
+stop-text-short run (Stop.Refused refusal) = refused-text-short (refusalNumber refusal)
+stop-text-short run (Stop.File refusal) = refused-text-short (fileNumber refusal)

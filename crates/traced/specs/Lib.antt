@@ -1,4 +1,9 @@
 pub mod Place
 pub mod Event
 pub mod Thread
+pub mod Whole
+pub mod Statements
+pub mod Theorems
+pub mod WrongTrace
+pub mod Fits
 pub mod Laws
