@@ -14,3 +14,4 @@ pub mod Held
 pub mod Standing
 pub mod Print
 pub mod Traced
+pub mod Console
