@@ -88,28 +88,28 @@ never-moves-refuted holds =
     false≢true (ap tries (after .place))
 
 -- finishes a call at its first step, and idles later
-abbrev pub finishesAtOnce : Program
-finishesAtOnce = programOf (λ v p. stays v (end Done))
+abbrev pub finishesAtTheFirstStep : Program
+finishesAtTheFirstStep = programOf (λ v p. stays v (end Done))
 
-pub finishes-at-once-refuted : AnsweredAtTheGrant finishesAtOnce → ⊥
+pub finishes-at-the-first-step-refuted : AnsweredAtTheGrant finishesAtTheFirstStep → ⊥
 unfolding accessOf markedOf acquires lockEffect
-finishes-at-once-refuted holds =
+finishes-at-the-first-step-refuted holds =
     let p = At.TryReadLoad true in
     false≢true (sym (holds (standing 0 p Nothing) 16 only Done Nobody (sized 0 p Nothing false 0 false) refl .1))
 
 -- ── what students' programs do wrong ──
 
 -- waking on a retracted downgrade: a read_unlock that clears DOWNGRADED wakes a thread
-abbrev pub wakesOnRetracting : Program
-wakesOnRetracting = programOf (changedAt 22 (λ v s. pick (downgraded (v .word)) (waking (Somebody (thread 0)) s) s))
+abbrev pub wakesOnARetractedDowngrade : Program
+wakesOnARetractedDowngrade = programOf (changedAt 22 (λ v s. pick (downgraded (v .word)) (waking (Somebody (thread 0)) s) s))
 
 isNobody : Owner → Bool
 isNobody Nobody = true
 isNobody (Somebody t) = false
 
-pub wakes-on-retracting-refuted : WokenIsTheOwner wakesOnRetracting → ⊥
+pub wakes-on-a-retracted-downgrade-refuted : WokenIsTheOwner wakesOnARetractedDowngrade → ⊥
 unfolding advanceOf accessOf markedOf which isNobody
-wakes-on-retracting-refuted holds =
+wakes-on-a-retracted-downgrade-refuted holds =
     let p = At.ReadUnlockCas (word 31) in
     let woken = holds .otherwise (standing 31 p Read) 16 only Done (Somebody (thread 0)) refl in
     false≢true (ap isNobody (woken (λ e. let bad : _≡_ {A = ℕ} 0 1 = cc in omega arith)))
@@ -145,61 +145,61 @@ atNewHead (At.ReleaseCas a) = At.ReleaseCas a
 atNewHead At.DowngradeCas = At.DowngradeCas
 atNewHead (At.DowngradeSlowCas a) = At.DowngradeSlowCas a
 
-abbrev pub restoresNewHead : Program
-restoresNewHead = programOf (λ v p. goingTo atNewHead (advanceOf v p))
+abbrev pub restoresTheNewHeadsTail : Program
+restoresTheNewHeadsTail = programOf (λ v p. goingTo atNewHead (advanceOf v p))
 
 abbrev seenNumber : Seen → ℕ
 seenNumber nothing = 0
 seenNumber (saw x) = x .0
 
-pub restores-new-head-refuted : SeenIsTheLastWord restoresNewHead → ⊥
+pub restores-the-new-heads-tail-refuted : SeenIsTheLastWord restoresTheNewHeadsTail → ⊥
 unfolding advanceOf accessOf markedOf atNewHead goesBy restoresAt
-restores-new-head-refuted holds =
+restores-the-new-heads-tail-refuted holds =
     let p = At.SplitCas Leaver (word 22) (node 1) in
     let m = standing 38 p Nothing in
     let after = holds m 16 only Went Nobody (sized 38 p Nothing false 0 false) refl refl (word 38) in
     false≢true (ap (λ s. eqb (seenNumber s) 22) (after .1 refl))
 
 -- reading prev after completing a node: completed is stored where prev is to be loaded
-abbrev pub completesFirst : Program
-completesFirst = programOf (changedAt 19 (λ v s. leavingNode (λ c. withCompleted (c .node)) s))
+abbrev pub readsPrevAfterCompleting : Program
+readsPrevAfterCompleting = programOf (changedAt 19 (λ v s. leavingNode (λ c. withCompleted (c .node)) s))
 
 abbrev isCompleted : Node → Bool
 isCompleted n = n .completed
 
-pub completes-first-refuted : OneAccess completesFirst → ⊥
+pub reads-prev-after-completing-refuted : OneAccess readsPrevAfterCompleting → ⊥
 unfolding advanceOf accessOf markedOf which fills
-completes-first-refuted holds = by (holds m 16 only Went Nobody refl refl .nodes 0)
+reads-prev-after-completing-refuted holds = by (holds m 16 only Went Nobody refl refl .nodes 0)
   where
     m : Machine
     m = standing 0 (At.WakePrev Leaver (node 1)) Nothing
 
-    by : NodeAfter m only (completesFirst m 16 only .machine) 0 → ⊥
+    by : NodeAfter m only (readsPrevAfterCompleting m 16 only .machine) 0 → ⊥
     by (same e) = false≢true (sym (ap isCompleted e))
     by (accessed i e) = false≢true (sym (ap isCompleted e))
     by (filled i f w e) = false≢true f
 
 -- letting code 17 fail a strong compare: write_unlock's
-abbrev pub strongFails : Program
-strongFails m code t =
+abbrev pub failsAStrongCompare : Program
+failsAStrongCompare m code t =
     pick (eqb code 17)
     (pick (eqb (which (placeOf m t)) 24) (record { machine = m; reply = Accepted Went Nobody }) (eventOf m code t))
     (eventOf m code t)
 
-pub strong-fails-refuted : RefusalTable strongFails → ⊥
+pub fails-a-strong-compare-refuted : RefusalTable failsAStrongCompare → ⊥
 unfolding accessOf thenTouched subtractsBelow which
-strong-fails-refuted holds =
+fails-a-strong-compare-refuted holds =
     false≢true (sym (ap (λ n. eqb n 0) (holds (standing 1 At.WriteUnlockCas Write) 17 only)))
 
 -- ── rules that end wrongly ──
 
 -- an uncontended read_unlock answers done at its load and releases nothing
-abbrev pub unlocksAtItsLoad : Program
-unlocksAtItsLoad = programOf (changedAt 21 (λ v s. stays v (end Done)))
+abbrev pub readUnlockDoneAtItsLoad : Program
+readUnlockDoneAtItsLoad = programOf (changedAt 21 (λ v s. stays v (end Done)))
 
-pub unlocks-at-its-load-refuted : GoesExactly unlocksAtItsLoad → ⊥
+pub read-unlock-done-at-its-load-refuted : GoesExactly readUnlockDoneAtItsLoad → ⊥
 unfolding advanceOf accessOf markedOf which goesTo
-unlocks-at-its-load-refuted holds =
+read-unlock-done-at-its-load-refuted holds =
     let p = At.ReadUnlockLoad in
     false≢true
     (ap (λ q. eqb (which q) 22)
@@ -213,12 +213,12 @@ noIsWent Done = Done
 noIsWent Yes = Yes
 noIsWent No = Went
 
-abbrev pub refusedTryWent : Program
-refusedTryWent = programOf (changedAt 3 (λ v s. answering noIsWent s))
+abbrev pub refusedTryWriteEndsWithWent : Program
+refusedTryWriteEndsWithWent = programOf (changedAt 3 (λ v s. answering noIsWent s))
 
-pub refused-try-went-refuted : EndsExactly refusedTryWent → ⊥
+pub refused-try-write-ends-with-went-refuted : EndsExactly refusedTryWriteEndsWithWent → ⊥
 unfolding advanceOf accessOf markedOf which
-refused-try-went-refuted holds =
+refused-try-write-ends-with-went-refuted holds =
     let p = At.TryWriteOr false in
     let after = holds .step (standing 1 p Nothing) 16 only Went Nobody (sized 1 p Nothing false 0 false) refl refl in
     false≢true (sym (after .idle))
@@ -275,12 +275,12 @@ subtraction-reads-the-word-refuted holds =
     false≢true (sym (ap (λ n. eqb n 16) (same .value)))
 
 -- the load of completed also reads the token
-abbrev pub loadReadsTheToken : Program
-loadReadsTheToken = programOf (changedAt 7 (λ v s. pick (v .token) (stays v (at (At.CompletedLoad false))) s))
+abbrev pub completedLoadReadsTheToken : Program
+completedLoadReadsTheToken = programOf (changedAt 7 (λ v s. pick (v .token) (stays v (at (At.CompletedLoad false))) s))
 
-pub load-reads-the-token-refuted : ReadsOneAccess loadReadsTheToken → ⊥
+pub completed-load-reads-the-token-refuted : ReadsOneAccess completedLoadReadsTheToken → ⊥
 unfolding advanceOf accessOf markedOf which
-load-reads-the-token-refuted holds =
+completed-load-reads-the-token-refuted holds =
     let p = At.CompletedLoad false in
     let same = holds (machineAt 0 p Nothing false 0 false) (machineAt 0 p Nothing true 0 false) 16 only
     (sized 0 p Nothing false 0 false)
@@ -314,23 +314,23 @@ keeps-its-word-refuted holds =
 -- ── rules that treat the token wrongly ──
 
 -- code 17 at park takes the token
-abbrev pub failedParkTakes : Program
-failedParkTakes = programOf (changedAt 8 (λ v s. withToken false s))
+abbrev pub parkForNoCauseTakesTheToken : Program
+parkForNoCauseTakesTheToken = programOf (changedAt 8 (λ v s. withToken false s))
 
-pub failed-park-takes-refuted : ParkTakesTheToken failedParkTakes → ⊥
+pub park-for-no-cause-takes-the-token-refuted : ParkTakesTheToken parkForNoCauseTakesTheToken → ⊥
 unfolding advanceOf accessOf markedOf which
-failed-park-takes-refuted holds =
+park-for-no-cause-takes-the-token-refuted holds =
     let p = At.Park false in
     let m = machineAt 0 p Nothing true 0 false in
     false≢true (holds .leaves m only Went Nobody (sized 0 p Nothing true 0 false) refl refl)
 
 -- code 16 at park keeps it
-abbrev pub parkKeeps : Program
-parkKeeps = programOf (changedAt 8 (λ v s. withToken (v .token) s))
+abbrev pub parkKeepsItsToken : Program
+parkKeepsItsToken = programOf (changedAt 8 (λ v s. withToken (v .token) s))
 
-pub park-keeps-refuted : ParkTakesTheToken parkKeeps → ⊥
+pub park-keeps-its-token-refuted : ParkTakesTheToken parkKeepsItsToken → ⊥
 unfolding advanceOf accessOf markedOf which
-park-keeps-refuted holds =
+park-keeps-its-token-refuted holds =
     let p = At.Park false in
     let m = machineAt 0 p Nothing true 0 false in
     false≢true (sym (holds .clears m only Went Nobody (sized 0 p Nothing true 0 false) refl refl))

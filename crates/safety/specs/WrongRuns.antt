@@ -169,14 +169,14 @@ leaves-the-word-refuted holds =
 -- ── the readers' number ──
 
 -- 'Counting readers in the word while QUEUED is set': here read_unlock takes 16 off the word
-abbrev counts-in-the-word : Program
-counts-in-the-word =
+abbrev counts-readers-in-a-queued-word : Program
+counts-readers-in-a-queued-word =
     changing At.ReadUnlockLoad (λ v s. pick (queued (v .word)) (writes v (word (v .word .0 - 16)) Nothing (end Done)) s)
 
 -- threads 0 and 1 read; thread 2 writes, and registers with its 10th step; thread 0 unlocks
-pub counts-in-the-word-refuted : ReaderCount counts-in-the-word → ⊥
+pub counts-readers-in-a-queued-word-refuted : ReaderCount counts-readers-in-a-queued-word → ⊥
 unfolding ranBy advanceOf accessOf markedOf which readsBelow toSet toTail
-counts-in-the-word-refuted holds = false≢true (holds 3 two-readers .2 .agrees)
+counts-readers-in-a-queued-word-refuted holds = false≢true (holds 3 two-readers .2 .agrees)
   where
     two-readers : List Event
     two-readers =
@@ -197,8 +197,8 @@ unfolding ranBy advanceOf accessOf markedOf which toSet toTail
 registers-unfilled-refuted holds = false≢true (ap isFine (holds 2 registered .fine))
 
 -- 'Reading prev after completing a node': here a waker stands on the node that it has completed, to load its prev
-abbrev reads-prev-late : Program
-reads-prev-late =
+abbrev reads-prev-after-completing : Program
+reads-prev-after-completing =
     changing (At.WakeStore Leaver none none)
     (from (λ v c. completes v (c .node) (c .woken) (back (c .woken) (nextOf c))))
   where
@@ -211,9 +211,9 @@ listedLength lost = 0
 listedLength (listed ns) = length ns
 
 -- the node is on its list still
-pub reads-prev-late-moves-refuted : ListsMove reads-prev-late → ⊥
+pub reads-prev-after-completing-moves-refuted : ListsMove reads-prev-after-completing → ⊥
 unfolding ranBy advanceOf accessOf markedOf which standOf queueEffect backFrom
-reads-prev-late-moves-refuted holds =
+reads-prev-after-completing-moves-refuted holds =
     let move = holds 2 (unlocking 6) (step 0) in
     let before : length (move .before .wakes 0) ≡ 1 = sym (ap listedLength (move .before .wakes-is 0)) in
     let after : length (move .after .wakes 0) ≡ 1 = sym (ap listedLength (move .after .wakes-is 0)) in
@@ -275,14 +275,14 @@ walks-always-refuted holds = holds 2 registered .unlocked refl 1 refl
 -- ── nobody is left asleep ──
 
 -- 'Completing stores completed and unparks': here it sets no token
-abbrev sets-no-token : Program
-sets-no-token = changing (At.WakeStore Leaver none none) (from (λ v c. completes v (c .node) Nobody (nextOf c)))
+abbrev completing-sets-no-token : Program
+completing-sets-no-token = changing (At.WakeStore Leaver none none) (from (λ v c. completes v (c .node) Nobody (nextOf c)))
 
-pub sets-no-token-refuted : NobodyStuck sets-no-token → ⊥
+pub completing-sets-no-token-refuted : NobodyStuck completing-sets-no-token → ⊥
 unfolding ranBy advanceOf accessOf markedOf which
-sets-no-token-refuted holds = holds 2 (unlocking 7) all 1 (omega arith) (false, refl)
+completing-sets-no-token-refuted holds = holds 2 (unlocking 7) all 1 (omega arith) (false, refl)
   where
-    all : (t : ℕ) → t < 2 → Resting (reachedBy sets-no-token 2 (unlocking 7)) t
+    all : (t : ℕ) → t < 2 → Resting (reachedBy completing-sets-no-token 2 (unlocking 7)) t
     all zero l = record { holding = refl; place = inl refl }
     all (suc zero) l = record { holding = refl; place = inr (false, refl, refl) }
     all (suc (suc t)) l = absurd (omega (arith, l))
@@ -295,17 +295,17 @@ unfolding ranBy advanceOf accessOf markedOf which
 registers-unfilled-eight-refuted holds = holds 2 (unlocking 4) (step 0) refl
 
 -- a node that has been completed is touched
-pub reads-prev-late-touches-refuted : TouchedAlive reads-prev-late → ⊥
+pub reads-prev-after-completing-touches-refuted : TouchedAlive reads-prev-after-completing → ⊥
 unfolding ranBy advanceOf accessOf markedOf which
-reads-prev-late-touches-refuted holds = ⊎-elim own waits (holds 2 (unlocking 7) (thread 0) .accessed)
+reads-prev-after-completing-touches-refuted holds = ⊎-elim own waits (holds 2 (unlocking 7) (thread 0) .accessed)
   where
     own : node 2 ≡ node 1 → ⊥
     own e = let z : _≡_ {A = ℕ} 2 1 = ap (λ (k : NodeNumber). k .0) e in omega (arith, z)
 
-    waits : Waits (reachedBy reads-prev-late 2 (unlocking 7)) (node 2) → ⊥
+    waits : Waits (reachedBy reads-prev-after-completing 2 (unlocking 7)) (node 2) → ⊥
     waits w =
         let z : w .0 ≡ 1 = let y : 2 ≡ w .0 + 1 = ap (λ (k : NodeNumber). k .0) (w .1) in omega (arith, y) in
-        false≢true (sym (subst (λ u. nodeAt (reachedBy reads-prev-late 2 (unlocking 7)) u .completed ≡ false) z
+        false≢true (sym (subst (λ u. nodeAt (reachedBy reads-prev-after-completing 2 (unlocking 7)) u .completed ≡ false) z
         (w .2 .uncompleted)))
 
 -- ── replays ──
@@ -326,23 +326,23 @@ file-stops-at-eight-refuted holds = holds [] .not-eight refl
 -- ── each call does its work ──
 
 -- 'read_unlock: load, then weak compare': here it is done at its load, and nothing is released
-abbrev done-at-the-load : Program
-done-at-the-load = changing At.ReadUnlockLoad (λ v s. pick (queued (v .word)) s (stays v (end Done)))
+abbrev read-unlock-done-at-its-load : Program
+read-unlock-done-at-its-load = changing At.ReadUnlockLoad (λ v s. pick (queued (v .word)) s (stays v (end Done)))
 
 -- try_read, granted; then read_unlock
-pub done-at-the-load-refuted : EachCallDoesItsWork done-at-the-load → ⊥
+pub read-unlock-done-at-its-load-refuted : EachCallDoesItsWork read-unlock-done-at-its-load → ⊥
 unfolding logOf ranBy advanceOf accessOf markedOf which lockEffect standOf
-done-at-the-load-refuted holds =
+read-unlock-done-at-its-load-refuted holds =
     false≢true (ap (λ l. eqb (length l) 1)
     (holds 1 (begin 2 0 ∷ step 0 ∷ step 0 ∷ begin 4 0 ∷ step 0 ∷ []) (thread 0) .ended .0 .1))
 
 -- 'one that finishes a call at its first step and idles later'
-abbrev finishes-at-first : Program
-finishes-at-first = programOf (λ v p. stays v (end Done))
+abbrev finishes-at-the-first-step : Program
+finishes-at-the-first-step = programOf (λ v p. stays v (end Done))
 
-pub finishes-at-first-refuted : EachCallDoesItsWork finishes-at-first → ⊥
+pub finishes-at-the-first-step-refuted : EachCallDoesItsWork finishes-at-the-first-step → ⊥
 unfolding logOf ranBy accessOf markedOf lockEffect standOf
-finishes-at-first-refuted holds =
+finishes-at-the-first-step-refuted holds =
     false≢true (ap (λ l. eqb (length l) 1) (holds 1 (begin 0 0 ∷ step 0 ∷ []) (thread 0) .ended .0 .1))
 
 -- 'A try that is granted ends with yes, any other with no': here try_write begins as write does, and blocks
