@@ -13,6 +13,7 @@ use Rattle.word.specs.declared.flags.Word.{Word}
 use Rattle.word.specs.declared.rules.ReadLocked.the-variants.{To}
 use Rattle.state.specs.Holding.{grantedRead, grantedWrite}
 use Rattle.state.specs.declared.holding.Holding.{Holding}
+use Rattle.state.specs.declared.place.Place.the-variants.{Idle}
 use Rattle.queue.specs.Tests.{never, not-true}
 use Rattle.invariant.specs.Table.{Free, leaver}
 use Rattle.invariant.specs.Invariant.{readers, writers, leavers, Hold, Unqueued, empty, written, read, by-writer}
@@ -21,7 +22,6 @@ use Rattle.invariant.specs.OffQueue.{RoleDown, Ended}
 use Rattle.invariant.specs.Words.{Plain, word-is, readers-word, granted-word, counts-bare}
 use Rattle.invariant.specs.Kept.{Setting, mine, became}
 use Rattle.invariant.specs.Frames.{Recount}
-use Rattle.state.specs.declared.place.Place.the-variants.{Idle}
 
 module _ (st : Setting) (o : RoleDown (st .s) (st .g) (st .me .0)) where
   open Setting st using (n, s, g, i, me, tin)

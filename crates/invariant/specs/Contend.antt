@@ -211,9 +211,9 @@ module _ (st : Setting) (c : Contends st) where
 module _ (st : Setting) where
   open Setting st using (s, g, i, me)
 
-  contends-off : (p : Place) → mine st .place ≡ p → about p ≡ offQueue free false false true
+  contends-off : {p : Place} → mine st .place ≡ p → about p ≡ offQueue free false false true
       → movesNoTicket p ≡ true → Contends st
-  contends-off p here told unmoved =
+  contends-off here told unmoved =
       let e : aboutAt s (me .0) ≡ offQueue free false false true = ap about here ∙ told in
       record {
         down = role-down i (me .0) (rw e (off-queue _ _ _ _));
@@ -224,8 +224,7 @@ module _ (st : Setting) where
 
   pub kept-contend-load : (writer : Bool) (reloads : ℕ) → mine st .place ≡ ContendLoad writer reloads
       → Goes st (suc (me .0)) (λ v. contendLoadOf v writer reloads)
-  kept-contend-load writer reloads here =
-      kept-contend st (contends-off (ContendLoad writer reloads) here refl refl) writer reloads
+  kept-contend-load writer reloads here = kept-contend st (contends-off here refl refl) writer reloads
 
   pub kept-contend-cas : (writer : Bool) (reloads : ℕ) (seen : Word) → mine st .place ≡ ContendCas writer reloads seen
       → Goes st (suc (me .0)) (λ v. contendCasOf v writer reloads seen)
@@ -234,7 +233,7 @@ module _ (st : Setting) where
       again
     where
       c : Contends st
-      c = contends-off (ContendCas writer reloads seen) here refl refl
+      c = contends-off here refl refl
 
       again : Kept st (suc (me .0)) (contendJudged (lookAt st (suc (me .0))) writer reloads (s .word))
       again = kept-contend st c writer reloads

@@ -39,6 +39,7 @@ use Rattle.state.specs.declared.view.Change.{Change}
 use Rattle.state.specs.declared.view.Mark.the-variants.{Missing, Reader, Writer}
 use Rattle.state.specs.declared.view.Stepped.{Stepped}
 use Rattle.state.specs.declared.view.Stepped.the-variants.{To, Refused as Denied}
+use Rattle.state.specs.declared.view.Mark.{Mark}
 use Rattle.lock.specs.Advance.{advanceOf}
 use Rattle.lock.specs.Begin.{isIdle, mayBegin, firstPlace, placedOf, beganOf, beginOf}
 use Rattle.lock.specs.Code.{codeOf}
@@ -60,7 +61,6 @@ use Rattle.invariant.specs.Kept.{wokenIn, Kept, Goes, Setting}
 use Rattle.invariant.specs.Steps.{WaitingNode, touches, slot-waiting, slot-marked, kept-everywhere}
 use Rattle.invariant.specs.Begins.{first-not-aside, kept-begin}
 use Rattle.invariant.specs.Bridge.{lockOf, thread-stored, change-stored}
-use Rattle.state.specs.declared.view.Mark.{Mark}
 
 -- a machine that has the invariant
 pub record Ok (m : Machine) : Type 0 where

@@ -28,7 +28,7 @@ module _ (st : Setting) (k : ℕ) where
   open Setting st using (n, s, g, i, me, tin)
 
   -- a thread that stands at a first attempt
-  module _ (p : Place) (here : mine st .place ≡ p) (first : about p ≡ offQueue free false false false)
+  module _ {p : Place} (here : mine st .place ≡ p) (first : about p ≡ offQueue free false false false)
       (unmoved : movesNoTicket p ≡ true) where
     told : aboutAt s (me .0) ≡ offQueue free false false false
     told = ap about here ∙ first
@@ -58,43 +58,38 @@ module _ (st : Setting) (k : ℕ) where
 
   pub kept-try-read-load : (blocking : Bool) → mine st .place ≡ TryReadLoad blocking
       → Goes st k (λ v. tryReadLoadOf v blocking)
-  kept-try-read-load blocking here = judged (TryReadLoad blocking) here refl refl blocking (readLockOf (s .word))
+  kept-try-read-load blocking here = judged here refl refl blocking (readLockOf (s .word))
 
-  at-end : (p : Place) → mine st .place ≡ p → movesNoTicket p ≡ true → (blocking : Bool) (w : Word) (h : Holding)
+  at-end : {p : Place} → mine st .place ≡ p → movesNoTicket p ≡ true → (blocking : Bool) (w : Word) (h : Holding)
       → Inv n (movedTo st w (became (mine st) Idle h)) g
       → Kept st k (writes (lookAt st k) w h (granted blocking))
-  at-end p here unmoved true w h j = kept-stood st k here unmoved _ _ refl j
-  at-end p here unmoved false w h j = kept-stood st k here unmoved _ _ refl j
+  at-end here unmoved true w h j = kept-stood st k here unmoved _ _ refl j
+  at-end here unmoved false w h j = kept-stood st k here unmoved _ _ refl j
 
   pub kept-try-read-cas : (blocking : Bool) (seen : Word) → mine st .place ≡ TryReadCas blocking seen
       → Goes st k (λ v. tryReadCasOf v blocking seen)
   kept-try-read-cas blocking seen here = kept-compare st k seen _ _ (λ same. by same (readLockOf seen) refl) again
     where
       again : Kept st k (tryReadJudged (lookAt st k) blocking (s .word))
-      again = judged (TryReadCas blocking seen) here refl refl blocking (readLockOf (s .word))
+      again = judged here refl refl blocking (readLockOf (s .word))
 
       by : s .word ≡ seen → (r : ReadLocked) → readLockOf seen ≡ r → Kept st k (tryReadCasBy (lookAt st k) blocking r)
       by same (To to) e =
-          at-end (TryReadCas blocking seen) here refl blocking to _
+          at-end here refl blocking to _
           (ends-call st _ to _
-          (ended-read st (is-first (TryReadCas blocking seen) here refl refl)
-          (nothing (TryReadCas blocking seen) here refl refl) (no-leaver (TryReadCas blocking seen) here refl refl)
-          to (ap readLockOf same ∙ e)))
+          (ended-read st (is-first here refl refl) (nothing here refl refl) (no-leaver here refl refl) to
+          (ap readLockOf same ∙ e)))
       by same Refused e = again
 
   pub kept-try-write-or : (blocking : Bool) → mine st .place ≡ TryWriteOr blocking
       → Goes st k (λ v. tryWriteOrOf v blocking)
   kept-try-write-or blocking here = pick-both (Kept st k) (locked (s .word)) _ _ (λ e. held blocking)
-      (λ e. at-end (TryWriteOr blocking) here refl blocking _ _
+      (λ e. at-end here refl blocking _ _
       (ends-call st _ _ _
-      (ended-written st (is-first (TryWriteOr blocking) here refl refl)
-      (nothing (TryWriteOr blocking) here refl refl) (no-leaver (TryWriteOr blocking) here refl refl) e)))
+      (ended-written st (is-first here refl refl) (nothing here refl refl) (no-leaver here refl refl) e)))
     where
       held : (b : Bool) → Kept st k (stays (lookAt st k) (tryWriteRefused b))
       held true =
           kept-stood st k here refl _ _ refl
-          (on-to (TryWriteOr blocking) here refl refl (ContendLoad true 0) (off-queue _ _ _ _)
-          (nothing (TryWriteOr blocking) here refl refl) refl refl)
-      held false =
-          kept-stood st k here refl _ _ refl
-          (on-to (TryWriteOr blocking) here refl refl Idle (off-queue _ _ _ _) tt refl refl)
+          (on-to here refl refl (ContendLoad true 0) (off-queue _ _ _ _) (nothing here refl refl) refl refl)
+      held false = kept-stood st k here refl _ _ refl (on-to here refl refl Idle (off-queue _ _ _ _) tt refl refl)

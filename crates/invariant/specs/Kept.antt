@@ -14,6 +14,7 @@ use Rattle.word.specs.declared.flags.Word.{Word}
 use Rattle.word.specs.declared.number.Owner.{Owner}
 use Rattle.word.specs.declared.number.Owner.the-variants.{Nobody, Thread as Somebody}
 use Rattle.word.specs.declared.number.ThreadNumber.{ThreadNumber}
+use Rattle.word.specs.Cases.{pick-both}
 use Rattle.state.specs.Machine.{threadLimit}
 use Rattle.state.specs.declared.machine.Thread.{Thread}
 use Rattle.state.specs.declared.place.Place.{Place}
@@ -22,6 +23,9 @@ use Rattle.state.specs.declared.view.Mark.{Mark}
 use Rattle.state.specs.declared.view.Stepped.{Stepped}
 use Rattle.state.specs.declared.view.Stepped.the-variants.{To, Refused}
 use Rattle.state.specs.declared.view.View.{View}
+use Rattle.state.specs.declared.node.Node.{Node}
+use Rattle.state.specs.declared.holding.Holding.{Holding}
+use Rattle.state.specs.View.{agreesOf}
 use Rattle.lock.specs.Landed.{tokenedOf}
 use Rattle.queue.specs.Updates.{upd, upd-self}
 use Rattle.queue.specs.Tickets.{Ghost}
@@ -29,11 +33,7 @@ use Rattle.invariant.specs.Table.{Lock}
 use Rattle.invariant.specs.Invariant.{Inv}
 use Rattle.invariant.specs.Frames.{moved}
 use Rattle.invariant.specs.Moves.{Went, isAside, movesNoTicket, stood}
-use Rattle.state.specs.declared.node.Node.{Node}
-use Rattle.state.specs.declared.holding.Holding.{Holding}
 use Rattle.invariant.specs.Words.{agreed}
-use Rattle.state.specs.View.{agreesOf}
-use Rattle.word.specs.Cases.{pick-both}
 
 -- a step of thread me, one of n, on a lock s that has the invariant with the tickets g; the mark that it finds, and
 -- whether its compare is made to fail

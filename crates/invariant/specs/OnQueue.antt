@@ -8,6 +8,7 @@ use mathlib.Core.Logic.{inl}
 use mathlib.Core.Path.{_≡_, refl, sym, _∙_}
 use Rattle.word.specs.declared.flags.Word.{Word}
 use Rattle.word.specs.declared.number.NodeNumber.{NodeNumber}
+use Rattle.word.specs.Flags.{toNode}
 use Rattle.state.specs.Node.{withPrev, withTail}
 use Rattle.state.specs.declared.holding.Holding.{Holding}
 use Rattle.state.specs.declared.node.Node.{Node}
@@ -26,7 +27,6 @@ use Rattle.invariant.specs.Table.{lookKind, roleOf}
 use Rattle.invariant.specs.Invariant.{Real, queueOf, Inv, Newest}
 use Rattle.invariant.specs.Frames.{moved, waits-as, stay, viewed}
 use Rattle.invariant.specs.Kept.{placed, Setting, mine, goneTo}
-use Rattle.word.specs.Flags.{toNode}
 
 -- ── places alike but for what is known of the queue ──
 

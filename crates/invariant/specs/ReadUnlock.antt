@@ -34,7 +34,7 @@ use Rattle.invariant.specs.CallEnds.{ended-bare}
 use Rattle.invariant.specs.Words.{Plain, word-is, readers-word, fewer-word, plain-free}
 use Rattle.invariant.specs.OnQueue.{begun-at}
 
-module _ (st : Setting) (k : ℕ) (p : Place) (here : mine st .place ≡ p)
+module _ (st : Setting) (k : ℕ) {p : Place} (here : mine st .place ≡ p)
     (told : about p ≡ offQueue reads false false false) (unmoved : movesNoTicket p ≡ true) where
   open Setting st using (n, s, g, i, me, tin)
 
@@ -198,11 +198,11 @@ module _ (st : Setting) (k : ℕ) (p : Place) (here : mine st .place ≡ p)
 
 module _ (st : Setting) (k : ℕ) where
   pub kept-read-unlock-load : mine st .place ≡ ReadUnlockLoad → Goes st k (λ v. readUnlockLoadOf v)
-  kept-read-unlock-load here = judged st k ReadUnlockLoad here refl refl
+  kept-read-unlock-load here = judged st k here refl refl
 
   pub kept-read-unlock-cas : (seen : Word) → mine st .place ≡ ReadUnlockCas seen
       → Goes st k (λ v. readUnlockCasOf v seen)
   kept-read-unlock-cas seen here = kept-compare st k seen _ _
       (λ same. subst (λ x. Kept st k (readUnlockCasBy (lookAt st k) (readUnlockOf x))) same
-      (taken st k (ReadUnlockCas seen) here refl refl))
-      (judged st k (ReadUnlockCas seen) here refl refl)
+      (taken st k here refl refl))
+      (judged st k here refl refl)

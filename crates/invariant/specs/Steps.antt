@@ -26,6 +26,7 @@ use Rattle.lock.specs.Advance.{advanceOf}
 use Rattle.lock.specs.Step.{haltedOf, markedOf}
 use Rattle.queue.specs.Tickets.{Ghost}
 use Rattle.queue.specs.Reads.{EachNode, NodeWaits, named-wait}
+use Rattle.queue.specs.Tests.{impossible}
 use Rattle.invariant.specs.Table.{about, Lock, waitOf}
 use Rattle.invariant.specs.Invariant.{Inv}
 use Rattle.invariant.specs.Exclusion.{inside}
@@ -43,7 +44,6 @@ use Rattle.invariant.specs.ReadUnlock.{kept-read-unlock-load, kept-read-
 use Rattle.invariant.specs.Subtract.{kept-subtract}
 use Rattle.invariant.specs.Release.{kept-write-unlock-cas, kept-release-cas}
 use Rattle.invariant.specs.Downgrade.{kept-downgrade-cas, kept-downgrade-slow-cas}
-use Rattle.queue.specs.Tests.{impossible}
 
 -- ── which node a step touches ──
 

@@ -13,12 +13,12 @@ use Rattle.state.specs.declared.place.Walk.{Walk}
 use Rattle.state.specs.declared.place.Walk.the-variants.{Queue, ReadUnlock, Downgrade}
 use Rattle.state.specs.declared.place.Place.{Place}
 use Rattle.state.specs.declared.place.Place.the-variants as At
+use Rattle.state.specs.declared.holding.Holding.{Holding}
 use Rattle.queue.specs.Tests.{never}
 use Rattle.queue.specs.Roles.{Role, none, public, modifies, onQueue, changing, filled}
 use Rattle.invariant.specs.Table.{handsOff, unheld, May, reads, writes, notRead, About, lookKind, walkKindOf}
 use Rattle.invariant.specs.Table.{offQueue, waiting, walking, owning, waking, about, waiter, mayWake, Free}
 use Rattle.invariant.specs.Table.{Allowed}
-use Rattle.state.specs.declared.holding.Holding.{Holding}
 
 pub record RowFacts (a : About) : Type 0 where
   -- who stands on the queue is an owner or a contended reader

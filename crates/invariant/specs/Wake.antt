@@ -22,8 +22,8 @@ use Rattle.state.specs.declared.place.Place.{Place}
 use Rattle.state.specs.declared.place.Place.the-variants.{Idle, CompletedLoad, WakePrev, WakeStore}
 use Rattle.state.specs.declared.place.Who.{Who}
 use Rattle.state.specs.declared.place.Who.the-variants.{Waiter, Leaver}
-use Rattle.lock.specs.Landed.{tokenedOf}
 use Rattle.walk.specs.CompleteAll.{wakePrevOf, wakeStoreOf}
+use Rattle.lock.specs.Landed.{tokenedOf}
 use Rattle.queue.specs.Tests.{never}
 use Rattle.queue.specs.Updates.{upd, upd-same, upd-other, upd-cases, map-keep, eq?}
 use Rattle.queue.specs.Tickets.{Ghost, completed, restSpan, takenBy}
