@@ -58,7 +58,7 @@ use Rattle.schedule.proofs.whole.rest_of_file.Met as rest-thm
 use Rattle.held.specs.Held.{fileShownOf, fileHeldOf}
 use Rattle.held.specs.declared.whole.FileHeld.{FileHeld}
 use Rattle.held.proofs.Lent.{Bytes, bytesVal, AreBytes, token, lent, Has, calls-lent, answers}
-use Rattle.held.proofs.Locals.{slotOf, behind-slice, behind-rest, local-at, lands-in, assigns-to, gives-up}
+use Rattle.held.proofs.Locals.{slotOf, behind-slice, behind-rest, and-local, lands-in, assigns-to, gives-up}
 use Rattle.held.proofs.Parts.{machine-of, run-of, stop-of, has-number, has-parts}
 use Rattle.held.proofs.whole.FileHeld as Helds
 use Rattle.held.proofs.whole.FileHeld.Laws as Helds′
@@ -119,10 +119,11 @@ module _ {M : Type 1} (𝓤 : URA M) (H : Heap 𝓤) (A : Atoms 𝓤) (mem : Mem
     abbrev Entry : SProp 𝓤
     Entry = onEntry 𝓤 H A f.signature (κ, tt) (q, tt) arguments passed
 
-    abbrev Exit : Contract 𝓤
-    Exit = walkOf 𝓤 H A f.ended stayed (f.clauses 𝓤 H A mem run)
+    -- the triple in which the walk ends, and what it binds
+    abbrev Walk : Contract 𝓤
+    Walk = walkOf 𝓤 H A f.ended stayed (f.clauses 𝓤 H A mem run)
 
-    abbrev bound : Exit .Ghost
+    abbrev bound : Walk .Ghost
     bound = (((κ, tt), (q, tt), tt, arguments, passed), tt)
 
     -- ── the result, of what the two calls answer ──
@@ -192,7 +193,7 @@ module _ {M : Type 1} (𝓤 : URA M) (H : Heap 𝓤) (A : Atoms 𝓤) (mem : Mem
         move ! (1 ∷ []) $ fsplit ! $ move ! (1 ∷ []) $ drop ! $ move ! (1 ∷ []) $ done !
 
     exits : (r : FileReplayed) (t : RefT (List ℕ)) → IsReplayed r → r ≡ all → IsRest (r .stop) (r .run) t
-        → ent 𝓤 (⋆ 𝓤 H A (lent κ t ∷ token κ q ∷ lent κ s ∷ [])) (Exit .post bound (madeVal r t))
+        → ent 𝓤 (⋆ 𝓤 H A (lent κ t ∷ token κ q ∷ lent κ s ∷ [])) (Walk .post bound (madeVal r t))
     exits r t is e e′ =
         let o = LL.owed Replays.the-type Replays′.the-laws r _ is in
         qed W (lent κ t ∷ token κ q ∷ lent κ s ∷ []) ∵
@@ -208,7 +209,7 @@ module _ {M : Type 1} (𝓤 : URA M) (H : Heap 𝓤) (A : Atoms 𝓤) (mem : Mem
 
     module _ (C : Calls 𝓤 H) (Λ : Loops 𝓤 H) (fm : FmC 𝓤 H (W .laws) C)
         (replays : Triple 𝓤 (C #replay-file) Replay) (rests : Triple 𝓤 (C #rest-of-file) Rest) where
-      walk : AreBytes κ s → ent 𝓤 Entry (WpFn 𝓤 H C Λ code.function (bytesVal s ∷ []) (Exit .post bound))
+      walk : AreBytes κ s → ent 𝓤 Entry (WpFn 𝓤 H C Λ code.function (bytesVal s ∷ []) (Walk .post bound))
       walk are-bytes =
           let slice-typed = shr-slice-lawful 𝓤 H A W (named 0) κ u8 .typed s _ are-bytes .0 in
           qed W (raw Entry ∷ []) ∵ enter ! C Λ code.function (bytesVal s ∷ []) _ $
@@ -217,7 +218,7 @@ module _ {M : Type 1} (𝓤 : URA M) (H : Heap 𝓤) (A : Atoms 𝓤) (mem : Mem
           move ! (entry-slot ∷ []) $ use1 W (token κ q ⊛ lent κ s) enters $ split ! $
           -- let done = replay_file(s);
           calls-lent ! fm κ q s Replay replays to-replay takes-replay
-          (and-then ! (local-at ! (behind-slice s-slot) refl) (no-more !)) (
+          (and-local ! (behind-slice s-slot) refl (no-more !)) (
           answers ! (token κ q) Replays.the-row (LL.val Replays.the-type Replays′.the-laws)
           (LL.tells Replays.the-type Replays′.the-laws) replay.ended (κ, tt) arguments (λ r. r ≡ all) (λ r e is.
           let typed = LL.lawful Replays.the-type Replays′.the-laws 𝓤 H A W .typed r _ is .0 in
@@ -233,21 +234,19 @@ module _ {M : Type 1} (𝓤 : URA M) (H : Heap 𝓤) (A : Atoms 𝓤) (mem : Mem
           -- let unread = rest_of_file(s, stop, run);
           calls-lent ! fm κ q s Rest rests (to-rest (r .stop) (r .run))
           (takes-rest (r .stop) (r .run) is-stop (typed .1 .1 .0 .fits))
-          (and-then ! (local-at ! (behind-slice s-slot) refl)
-          (and-then ! (local-at ! (behind-slice stop-slot) refl)
-          (and-then ! (local-at ! (behind-slice run-slot) refl) (no-more !)))) (
+          (and-local ! (behind-slice s-slot) refl (and-local ! (behind-slice stop-slot) refl
+          (and-local ! (behind-slice run-slot) refl (no-more !)))) (
           answers ! (token κ q) (Bytes κ) bytesVal (shr-slice-tells (named 0) κ u8)
           rest.ended (κ, tt) (s, (r .stop, (r .run, tt))) (IsRest (r .stop) (r .run)) (λ t e′ it.
           let rest-typed = shr-slice-lawful 𝓤 H A W erased κ u8 .typed t _ it .0 in
-          let made-typed =
-          LL.lawful (Helds.the-type α) (Helds′.the-laws α) 𝓤 H A W .typed (made r t) _ (made-is r t is it) .0 in
+          let is-made = made-is r t is it in
+          let made-typed = LL.lawful (Helds.the-type α) (Helds′.the-laws α) 𝓤 H A W .typed (made r t) _ is-made .0 in
           lands-in ! (behind-rest unread-slot) refl rest-typed $
           -- FileHeld { machine: done.machine, run: run, stop: stop, rest: unread }
           assigns-to ! (behind-rest result-slot)
           (agg ! (and-then ! (machine-of ! (behind-rest done-slot) Stops′.mir refl (whole !))
-          (and-then ! (local-at ! (behind-rest run-slot) refl)
-          (and-then ! (local-at ! (behind-rest stop-slot) refl)
-          (and-then ! (local-at ! (behind-rest unread-slot) refl) (no-more !)))))) refl made-typed $
+          (and-local ! (behind-rest run-slot) refl (and-local ! (behind-rest stop-slot) refl
+          (and-local ! (behind-rest unread-slot) refl (no-more !)))))) refl made-typed $
           returns ! (look ! (behind-rest result-slot) refl) $
           gives-up ! (behind-rest result-slot) refl refl $ gives-up ! (behind-rest s-slot) refl refl $
           gives-up ! (behind-rest done-slot) refl refl $ gives-up ! (behind-rest run-slot) refl refl $
