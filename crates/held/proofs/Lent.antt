@@ -53,7 +53,7 @@ module _ {M : Type 1} (𝓤 : URA M) (H : Heap 𝓤) (A : Atoms 𝓤) where
   Has κ q s = ⋆ 𝓤 H A (token κ q ∷ lent κ s ∷ [])
 
   -- an `ensures` that says a fact and nothing of last values
-  abbrev pub Said : (T : Ended) (κs : Lfts (T .signature .lifetimes)) (a : Args (T .signature) κs) → Type 0 → SProp 𝓤
+  abbrev Said : (T : Ended) (κs : Lfts (T .signature .lifetimes)) (a : Args (T .signature) κs) → Type 0 → SProp 𝓤
   Said T κs a φ = ex 𝓤 (λ (ws : Lasts T κs a). sep 𝓤 (sem 𝓤 H A (lasts T κs a ws)) (fact 𝓤 φ))
 
   said-fact : (T : Ended) (κs : Lfts (T .signature .lifetimes)) (a : Args (T .signature) κs) (φ : Type 0)
@@ -61,7 +61,7 @@ module _ {M : Type 1} (𝓤 : URA M) (H : Heap 𝓤) (A : Atoms 𝓤) where
   said-fact T κs a φ = exE 𝓤 _ (λ ws. snd∗ 𝓤 (sem 𝓤 H A (lasts T κs a ws)) (fact 𝓤 φ))
 
   -- what a callee's triple has after it: the token, what the result owns, and the `ensures`
-  abbrev pub Answer : Item 𝓤 → (R : RattleType) → (R .Denot → SProp 𝓤) → Val → Item 𝓤
+  abbrev Answer : Item 𝓤 → (R : RattleType) → (R .Denot → SProp 𝓤) → Val → Item 𝓤
   Answer tok R said u = later (some (λ (r : R .Denot). (tok ⊛ ‵ (R .own r (u ∷ []))) ⊛ raw (said r)))
 
   -- what the slice owns is had twice: a callee takes one, with the token, and the other is kept
