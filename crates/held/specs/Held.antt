@@ -1,5 +1,6 @@
--- What a replay hands back together: the machine, the number run and the stop, and the bytes of the unread rest; of a run
--- of events, then of a whole file. Assumes nothing.
+-- What a replay hands back together: the machine, the number run and the stop, and the bytes of the unread rest; of a
+-- run of events, then of a whole file.
+-- Assumes nothing.
 use Prim.Native.Nat.{ℕ, _*_}
 use mathlib.Core.List.{List}
 use lib.ListN.{drop}

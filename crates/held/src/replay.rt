@@ -1,5 +1,5 @@
-// The replay of a bare run of events, with what it leaves unread of the caller's own slice. Walked by hand; a caller with a
-// local of the struct is not covered, so programs call schedule's `replay` and `rest`.
+// The replay of a bare run of events, with what it leaves unread of the caller's own slice. Walked by hand; a caller
+// with a local of the struct is not covered, so programs call schedule's `replay` and `rest`.
 ghost use mathlib.Core.Path.{_≡_};
 ghost use Rattle.held.specs.Held.{shownOf, heldOf};
 use schedule::replay::Stop;

@@ -1,5 +1,6 @@
-// A whole file, checked and replayed, with what it leaves unread of the caller's own slice: of a refused file, all. Walked by
-// hand; a caller with a local of the struct is not covered, so programs call schedule's `replay_file` and `rest_of_file`.
+// A whole file, checked and replayed, with what it leaves unread of the caller's own slice: of a refused file, all.
+// Walked by hand; a caller with a local of the struct is not covered, so programs call schedule's `replay_file` and
+// `rest_of_file`.
 ghost use mathlib.Core.Path.{_≡_};
 ghost use Rattle.held.specs.Held.{fileShownOf, fileHeldOf};
 use schedule::whole::FileStop;
