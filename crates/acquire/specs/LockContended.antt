@@ -1,4 +1,5 @@
--- Contend: load; if the lock rule permits, weak compare; else reload or fill the node, and register it. Assumes nothing.
+-- Contend: load; if the lock rule permits, weak compare; else reload or fill the node, and register it.
+-- Assumes nothing.
 use Prim.Native.Nat.{ℕ, _+_}
 use mathlib.Core.Bool.{Bool}
 use lib.Dec.{ltb}

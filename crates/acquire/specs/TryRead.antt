@@ -1,4 +1,6 @@
--- try_read: load, then weak compare to read_lock; a refusal by read_lock ends it with no. read makes that attempt first, then contends. Assumes nothing.
+-- try_read: load, then weak compare to read_lock; a refusal by read_lock ends it with no.
+-- read makes that attempt first, then contends.
+-- Assumes nothing.
 use mathlib.Core.Bool.{Bool, false}
 use Rattle.word.specs.Base.{pick}
 use Rattle.word.specs.Rules.{readLockOf}

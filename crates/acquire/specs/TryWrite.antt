@@ -1,4 +1,5 @@
--- try_write: one fetch-or of LOCKED. write makes that attempt first, then contends. Assumes nothing.
+-- try_write: one fetch-or of LOCKED. write makes that attempt first, then contends.
+-- Assumes nothing.
 use mathlib.Core.Bool.{Bool, true}
 use Rattle.word.specs.Base.{pick}
 use Rattle.word.specs.Flags.{locked, setLocked}

@@ -1,4 +1,5 @@
--- Load completed: set, start again with reloads at 0; clear, park and load again. Assumes nothing.
+-- Load completed: set, start again with reloads at 0; clear, park and load again.
+-- Assumes nothing.
 use mathlib.Core.Bool.{Bool, false}
 use Rattle.word.specs.Base.{pick}
 use Rattle.state.specs.View.{at, stays, parks}
@@ -12,4 +13,5 @@ completedLoadOf v writer =
 
 -- park consumes the token; made to fail, it returns with its token kept
 abbrev pub parkOf : View → Bool → Stepped
-parkOf v writer = pick (v .fails) (parks v (v .token) (at (CompletedLoad writer))) (parks v false (at (CompletedLoad writer)))
+parkOf v writer =
+    pick (v .fails) (parks v (v .token) (at (CompletedLoad writer))) (parks v false (at (CompletedLoad writer)))

@@ -1,6 +1,7 @@
 // lock_contended: load and judge the word; take the lock, reload, or fill the node and register it.
 ghost use mathlib.Core.Path.{_≡_};
-ghost use Rattle.acquire.specs.LockContended.{permittedOf, grantedOf, fillOf, reloadOrFill, contendJudged, contendLoadOf, contendCasOf, afterRegister, registerCasOf};
+ghost use Rattle.acquire.specs.LockContended.{permittedOf, grantedOf, fillOf, reloadOrFill, contendJudged};
+ghost use Rattle.acquire.specs.LockContended.{contendLoadOf, contendCasOf, afterRegister, registerCasOf};
 use state::Answer;
 use state::Holding;
 use state::Next;

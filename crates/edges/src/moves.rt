@@ -22,8 +22,8 @@ pub(crate) const WRITE_UNLOCK: u8 = 5;
 
 pub(crate) const STEP: u8 = 16;
 
-// Of the last move: how many of its events were accepted, the number of its last refusal (0: the last was accepted), the node
-// of the thread that it woke last (0: none).
+// Of the last move: how many of its events were accepted, the number of its last refusal (0: the last was accepted),
+// the node of the thread that it woke last (0: none).
 struct LastMove {
     accepted: u64,
     refused: u64,

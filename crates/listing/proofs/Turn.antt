@@ -1,4 +1,5 @@
--- The turns of the listing's two walks: what a walk on its way comes to where it ends, where it is lost, and after one node more.
+-- The turns of the listing's two walks: what a walk on its way comes to where it ends,
+-- where it is lost, and after one node more.
 --     on                                the way after one node more
 --     set-spent, set-lost, set-on       following next: no visit left, out of range, on to the next node
 --     set-met                           and where a node's tail is set
@@ -21,7 +22,8 @@ use Rattle.state.specs.Machine.{threadLimit}
 use Rattle.state.specs.declared.machine.Machine.{Machine}
 use Rattle.state.specs.declared.answer.Refusal.the-variants.{Damaged}
 use Rattle.state.specs.declared.answer.Verdict.the-variants.{Fine, Refused}
-use Rattle.listing.specs.Listing.{Listed, lost, listed, prepend, within, nodeBy, linkOf, toTail, toSet, padded, emptyOf, waitersBy}
+use Rattle.listing.specs.Listing.{Listed, lost, listed, prepend, within, nodeBy}
+use Rattle.listing.specs.Listing.{linkOf, toTail, toSet, padded, emptyOf, waitersBy}
 use Rattle.listing.specs.Way.{Way, prependAll, joined}
 
 prepend-lost : (ns : List NodeNumber) → prependAll ns lost ≡ lost
@@ -32,7 +34,8 @@ prepend-none : (ns : List NodeNumber) → prependAll ns (listed []) ≡ listed n
 prepend-none [] = refl
 prepend-none (n ∷ ns) = ap (prepend n) (prepend-none ns)
 
-prepend-snoc : (ns : List NodeNumber) (n : NodeNumber) (l : Listed) → prependAll (ns ++ n ∷ []) l ≡ prependAll ns (prepend n l)
+prepend-snoc : (ns : List NodeNumber) (n : NodeNumber) (l : Listed)
+    → prependAll (ns ++ n ∷ []) l ≡ prependAll ns (prepend n l)
 prepend-snoc [] n l = refl
 prepend-snoc (x ∷ ns) n l = ap (prepend x) (prepend-snoc ns n l)
 
@@ -82,8 +85,11 @@ module _ {m : Machine} {nodes : List NodeNumber} {visits : ℕ} (way : Way m nod
     shown l = ap waitersBy (ap (λ ns. prependAll ns l) one-more ∙ prepend-snoc (take visits nodes) n l)
 
 -- a walk that is lost takes what was listed with it
-none-listed : (nodes : List NodeNumber) (visits : ℕ) (l : Listed) → l ≡ lost → emptyOf (Refused Damaged) ≡ joined nodes visits l
-none-listed nodes visits l e = ap waitersBy (sym (ap (prependAll (take visits nodes)) e ∙ prepend-lost (take visits nodes)))
+none-listed : (nodes : List NodeNumber) (visits : ℕ) (l : Listed)
+    → l ≡ lost
+    → emptyOf (Refused Damaged) ≡ joined nodes visits l
+none-listed nodes visits l e =
+    ap waitersBy (sym (ap (prependAll (take visits nodes)) e ∙ prepend-lost (take visits nodes)))
 
 -- going on to the tail
 module _ (m : Machine) (tail at : NodeNumber) where
@@ -105,7 +111,9 @@ module _ (m : Machine) (tail at : NodeNumber) where
     strayed zero out = stuck
     strayed (suc left) out = simp (ne-eqb (at .0) (tail .0) other, out)
 
-    onward : (left : ℕ) → within (m .count) next ≡ true → toTail (suc left) m tail at ≡ prepend next (toTail left m tail next)
+    onward : (left : ℕ)
+        → within (m .count) next ≡ true
+        → toTail (suc left) m tail at ≡ prepend next (toTail left m tail next)
     unfolding toTail
     onward left in-range = simp (ne-eqb (at .0) (tail .0) other, in-range)
 
@@ -113,7 +121,8 @@ module _ {m : Machine} {nodes : List NodeNumber} {visits : ℕ} (way : Way m nod
   abbrev to-come : Listed
   to-come = toTail (m .count - visits) m tail at
 
-  pub tail-met : at .0 ≡ tail .0 → record { nodes = nodes; length = visits; verdict = Fine } ≡ joined nodes visits to-come
+  pub tail-met : at .0 ≡ tail .0
+      → record { nodes = nodes; length = visits; verdict = Fine } ≡ joined nodes visits to-come
   tail-met e = all-listed way ∙ ap (joined nodes visits) (sym (there m tail at (m .count - visits) e))
 
   module _ (other : at .0 ≡ tail .0 → ⊥) where
@@ -129,7 +138,8 @@ module _ {m : Machine} {nodes : List NodeNumber} {visits : ℕ} (way : Way m nod
         → next ≡ linkOf m at
         → visits < m .count
         → within (m .count) next ≡ true
-        → joined (set nodes visits next) (visits + 1) (toTail (m .count - (visits + 1)) m tail next) ≡ joined nodes visits to-come
+        → joined (set nodes visits next) (visits + 1) (toTail (m .count - (visits + 1)) m tail next)
+        ≡ joined nodes visits to-come
     tail-on next e room in-range =
         let left : ℕ = m .count - (visits + 1) in
         let one-more : m .count - visits ≡ suc left = omega arith in
@@ -173,7 +183,9 @@ module _ {m : Machine} {nodes : List NodeNumber} {visits : ℕ} (way : Way m nod
     abbrev left : ℕ
     left = m .count - (visits + 1)
 
-    stood : (l : Listed) → toSet (suc left) m at ≡ prepend at l → joined (set nodes visits at) (visits + 1) l ≡ joined nodes visits to-follow
+    stood : (l : Listed)
+        → toSet (suc left) m at ≡ prepend at l
+        → joined (set nodes visits at) (visits + 1) l ≡ joined nodes visits to-follow
     stood l e =
         let one-more : m .count - visits ≡ suc left = omega arith in
         shown way at room l ∙ ap (joined nodes visits) (sym (ap (λ k. toSet k m at) one-more ∙ e))
@@ -183,5 +195,6 @@ module _ {m : Machine} {nodes : List NodeNumber} {visits : ℕ} (way : Way m nod
     set-on h = stood (toSet left m (linkOf m at)) (unset m at left in-range h)
 
     pub set-met : isNone (nodeBy m at .tail) ≡ false
-        → joined (set nodes visits at) (visits + 1) (toTail left m (nodeBy m at .tail) at) ≡ joined nodes visits to-follow
+        → joined (set nodes visits at) (visits + 1) (toTail left m (nodeBy m at .tail) at)
+        ≡ joined nodes visits to-follow
     set-met h = stood (toTail left m (nodeBy m at .tail) at) (met m at left in-range h)

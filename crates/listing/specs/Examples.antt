@@ -1,4 +1,5 @@
--- Listings and reader counts of written machines: document 01's, and damaged ones, on both sides of an edge. Assumes nothing.
+-- Listings and reader counts of written machines: document 01's, and damaged ones, on both sides of an edge.
+-- Assumes nothing.
 use Prim.Native.Nat.{ℕ, _+_}
 use mathlib.Core.Bool.{Bool, true, false}
 use mathlib.Core.List.{[], _∷_}
@@ -16,7 +17,8 @@ use Rattle.state.specs.declared.place.Place.the-variants.{Idle}
 use Rattle.listing.specs.Listing.{lost, listed, toTail, toSet, listedOf}
 use Rattle.listing.specs.ReaderCount.{readsBelow, refusedOf, readersOf}
 use Rattle.listing.specs.declared.reader_count.Sits.{Sits}
-use Rattle.listing.specs.declared.reader_count.Sits.the-variants.{Nowhere, Word as InWord, Downgrade, Node as InNode}
+use Rattle.listing.specs.declared.reader_count.Sits.the-variants.{Nowhere, Word as InWord}
+use Rattle.listing.specs.declared.reader_count.Sits.the-variants.{Downgrade, Node as InNode}
 use Rattle.listing.specs.declared.reader_count.Readers.{Readers}
 
 -- a node by its next and its tail

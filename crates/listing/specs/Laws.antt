@@ -2,8 +2,10 @@
 --     waiters-bad-count                8 on a bad thread count
 --     waiters-unqueued                 empty if unqueued
 --     waiters-most, waiters-within     it has at most as many nodes as the count, each in 1..count
---     waiters-first, waiters-linked    the first is the word's node, each other the one that the next of the node before links to
---     waiters-some, waiters-met        of a queued word, unless refused: it has a node, and ends on the first tail that it met
+--     waiters-first, waiters-linked    the first is the word's node, each other the one that the next of the node
+--                                      before links to
+--     waiters-some, waiters-met        of a queued word, unless refused: it has a node, and ends on the first tail
+--                                      that it met
 --     waiters-refused                  refused, it is 8, with no nodes
 --     waiters-others                   past its length the array has no node
 --     reads-most                       n threads have at most n reads
@@ -32,7 +34,8 @@ use Rattle.state.specs.declared.answer.Verdict.the-variants.{Fine, Refused}
 use Rattle.state.specs.declared.holding.Holding.{Holding}
 use Rattle.state.specs.declared.holding.Holding.the-variants.{Nothing, Read, Write}
 use Rattle.state.specs.declared.machine.Machine.{Machine}
-use Rattle.listing.specs.Listing.{Listed, lost, listed, prepend, within, nodeBy, linkOf, stand, toTail, toSet, followedOf, listedOf, padded, emptyOf, waitersBy, waitersOf}
+use Rattle.listing.specs.Listing.{Listed, lost, listed, prepend, within, nodeBy, linkOf, stand, toTail, toSet}
+use Rattle.listing.specs.Listing.{followedOf, listedOf, padded, emptyOf, waitersBy, waitersOf}
 use Rattle.listing.specs.ReaderCount.{readsBelow}
 use Rattle.listing.specs.declared.listing.Waiters.{Waiters}
 
@@ -102,20 +105,27 @@ module _ (P Q : List NodeNumber → Type 0) (m : Machine) (at : NodeNumber)
   stood : (l : Listed) → Holds P l → Holds Q (stand m at l)
   stood l p = pick-both (Holds Q) (within (m .count) at) (prepend at l) lost (λ inside. prepended l inside p) (λ _. tt)
 
-mapped : (P Q : List NodeNumber → Type 0) → ((ns : List NodeNumber) → P ns → Q ns) → (l : Listed) → Holds P l → Holds Q l
+mapped : (P Q : List NodeNumber → Type 0)
+    → ((ns : List NodeNumber) → P ns → Q ns)
+    → (l : Listed)
+    → Holds P l
+    → Holds Q l
 mapped P Q f lost p = tt
 mapped P Q f (listed ns) p = f ns p
 
 -- the walk to the tail: a trail from the next of the node that it starts from, whose last is the tail
-tail-trail : (left : ℕ) (m : Machine) (tail at : NodeNumber) → Holds (Trail m left (linkOf m at)) (toTail left m tail at)
+tail-trail : (left : ℕ) (m : Machine) (tail at : NodeNumber)
+    → Holds (Trail m left (linkOf m at)) (toTail left m tail at)
 unfolding toTail
-tail-trail zero m tail at = pick-both (Holds (Trail m zero (linkOf m at))) (eqb (at .0) (tail .0)) (listed []) lost (λ _. end) (λ _. tt)
+tail-trail zero m tail at =
+    pick-both (Holds (Trail m zero (linkOf m at))) (eqb (at .0) (tail .0)) (listed []) lost (λ _. end) (λ _. tt)
 tail-trail (suc left) m tail at =
     let next : NodeNumber = linkOf m at in
     let rest : Listed = toTail left m tail next in
     pick-both (Holds (Trail m (suc left) next)) (eqb (at .0) (tail .0)) (listed []) (stand m next rest)
     (λ _. end)
-    (λ _. stood (Trail m left (linkOf m next)) (Trail m (suc left) next) m next (λ inside ns. step inside) rest (tail-trail left m tail next))
+    (λ _. stood (Trail m left (linkOf m next)) (Trail m (suc left) next) m next (λ inside ns. step inside) rest
+    (tail-trail left m tail next))
 
 -- the nodes after `at` end on the tail
 abbrev Onto : NodeNumber → NodeNumber → List NodeNumber → Type 0
@@ -124,7 +134,9 @@ Onto tail at ns = getD (at ∷ ns) (length ns) none ≡ tail
 tail-onto : (left : ℕ) (m : Machine) (tail at : NodeNumber) → Holds (Onto tail at) (toTail left m tail at)
 unfolding toTail
 tail-onto zero m tail at =
-    pick-both (Holds (Onto tail at)) (eqb (at .0) (tail .0)) (listed []) lost (λ e. ap node (eqb-true (at .0) (tail .0) e)) (λ _. tt)
+    pick-both (Holds (Onto tail at)) (eqb (at .0) (tail .0)) (listed []) lost
+    (λ e. ap node (eqb-true (at .0) (tail .0) e))
+    (λ _. tt)
 tail-onto (suc left) m tail at =
     let next : NodeNumber = linkOf m at in
     let rest : Listed = toTail left m tail next in
@@ -150,7 +162,10 @@ set-trail (suc left) m at =
 abbrev MetIn : Machine → List NodeNumber → Type 0
 MetIn m ns = Met m ns (length ns)
 
-met-later : (m : Machine) (at : NodeNumber) (ns : List NodeNumber) → isNone (nodeBy m at .tail) ≡ true → MetIn m ns → MetIn m (at ∷ ns)
+met-later : (m : Machine) (at : NodeNumber) (ns : List NodeNumber)
+    → isNone (nodeBy m at .tail) ≡ true
+    → MetIn m ns
+    → MetIn m (at ∷ ns)
 met-later m at ns none-set later =
     let shifted : suc (length ns - 1) ≡ suc (length ns) - 1 = omega arith in
     record {
@@ -189,7 +204,8 @@ set-met (suc left) m at =
     stood after (MetIn m) m at (λ _ ns met. met) (onward left m at)
     (pick-both (Holds after) (isNone tail) (toSet left m next) (toTail left m tail at)
     (λ none-set. mapped (MetIn m) after (λ ns. met-later m at ns none-set) (toSet left m next) (set-met left m next))
-    (λ set. mapped (Onto tail at) after (λ ns. met-here m at ns set) (toTail left m tail at) (tail-onto left m tail at)))
+    (λ set. mapped (Onto tail at) after (λ ns. met-here m at ns set) (toTail left m tail at)
+    (tail-onto left m tail at)))
 
 -- below the length an array's elements are the listing's nodes, and past it none
 pub kept-at : (ns : List NodeNumber) (k : ℕ) → k < length ns → getD (padded ns) k none ≡ getD ns k none
@@ -223,13 +239,17 @@ module _ (m : Machine) where
 
   listed-trail : Holds FromWord (listedOf m)
   listed-trail =
-      pick-both (Holds FromWord) (goodCount (m .count)) (pick (queued (m .word)) (followedOf m (toNode (m .word))) (listed [])) lost
-      (λ _. pick-both (Holds FromWord) (queued (m .word)) (followedOf m (toNode (m .word))) (listed []) (λ _. set-trail (m .count) m (toNode (m .word))) (λ _. end))
+      pick-both (Holds FromWord) (goodCount (m .count))
+      (pick (queued (m .word)) (followedOf m (toNode (m .word))) (listed [])) lost
+      (λ _. pick-both (Holds FromWord) (queued (m .word)) (followedOf m (toNode (m .word))) (listed [])
+      (λ _. set-trail (m .count) m (toNode (m .word)))
+      (λ _. end))
       (λ _. tt)
 
   listed-met : queued (m .word) ≡ true → Holds (MetIn m) (listedOf m)
   listed-met queue =
-      pick-both (Holds (MetIn m)) (goodCount (m .count)) (pick (queued (m .word)) (followedOf m (toNode (m .word))) (listed [])) lost
+      pick-both (Holds (MetIn m)) (goodCount (m .count))
+      (pick (queued (m .word)) (followedOf m (toNode (m .word))) (listed [])) lost
       (λ _. rw queue (set-met (m .count) m (toNode (m .word))))
       (λ _. tt)
 
@@ -280,10 +300,15 @@ module _ (m : Machine) where
       (λ ns t b. kept-at ns (suc k) b ∙ trail-linked t k b ∙ ap (linkOf m) (sym (kept-at ns k (omega arith))))
 
   -- of a queued word, unless refused, it ends on the first tail that it met
-  pub waiters-met : queued (m .word) ≡ true → waitersOf m .verdict ≡ Fine → Met m (waitersOf m .nodes) (waitersOf m .length)
+  pub waiters-met : queued (m .word) ≡ true
+      → waitersOf m .verdict ≡ Fine
+      → Met m (waitersOf m .nodes) (waitersOf m .length)
   waiters-met queue = cases (listedOf m) (listed-met queue)
     where
-      cases : (l : Listed) → Holds (MetIn m) l → waitersBy l .verdict ≡ Fine → Met m (waitersBy l .nodes) (waitersBy l .length)
+      cases : (l : Listed)
+          → Holds (MetIn m) l
+          → waitersBy l .verdict ≡ Fine
+          → Met m (waitersBy l .nodes) (waitersBy l .length)
       cases lost met fine = let bad : _≡_ {A = ℕ} 0 1 = cc in absurd (omega arith)
       cases (listed ns) met fine = met-padded m ns met
 

@@ -1,4 +1,5 @@
--- The waiter listing of a machine, in document 01's words. Assumes nothing.
+-- The waiter listing of a machine, in document 01's words.
+-- Assumes nothing.
 use Prim.Native.Nat.{ℕ, zero, suc, _-_}
 use mathlib.Core.Bool.{Bool, false}
 use mathlib.Core.List.{List, [], _∷_, _++_}

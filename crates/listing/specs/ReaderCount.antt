@@ -1,5 +1,6 @@
--- The traced reader count of a machine: how many threads hold read, where document 01 has their number, the number that is
--- there, and whether it is the one that is due. Assumes nothing.
+-- The traced reader count of a machine: how many threads hold read, where document 01 has their number, the number that
+-- is there, and whether it is the one that is due.
+-- Assumes nothing.
 use Prim.Native.Nat.{ℕ, zero, suc, _+_, _-_, _*_}
 use mathlib.Core.Bool.{false}
 use mathlib.Core.List.{List}
@@ -16,7 +17,8 @@ use Rattle.state.specs.declared.answer.Verdict.the-variants.{Fine, Refused}
 use Rattle.state.specs.declared.machine.Machine.{Machine}
 use Rattle.listing.specs.Listing.{Listed, lost, listed, nodeBy, listedOf}
 use Rattle.listing.specs.declared.reader_count.Sits.{Sits}
-use Rattle.listing.specs.declared.reader_count.Sits.the-variants.{Nowhere, Word as InWord, Downgrade, Node as InNode}
+use Rattle.listing.specs.declared.reader_count.Sits.the-variants.{Nowhere, Word as InWord}
+use Rattle.listing.specs.declared.reader_count.Sits.the-variants.{Downgrade, Node as InNode}
 use Rattle.listing.specs.declared.reader_count.Readers.{Readers}
 
 -- how many of the threads below n hold read
@@ -31,7 +33,8 @@ rawAt m InWord = m .word .0
 rawAt m Downgrade = 1
 rawAt m (InNode n) = nodeBy m n .next .0
 
--- what r readers are there: unqueued, the word is 16r + 1; queued with DOWNGRADED, r is 1; else the oldest waiter's next is 16r
+-- what r readers are there: unqueued, the word is 16r + 1; queued with DOWNGRADED, r is 1;
+-- else the oldest waiter's next is 16r
 abbrev pub dueAt : ℕ → Sits → ℕ
 dueAt r Nowhere = 0
 dueAt r InWord = SINGLE * r + LOCKED

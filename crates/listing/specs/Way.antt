@@ -1,4 +1,5 @@
--- A listing on its way: the nodes stood on so far are the first `visits` of an array whose others are none. Assumes nothing.
+-- A listing on its way: the nodes stood on so far are the first `visits` of an array whose others are none.
+-- Assumes nothing.
 use Prim.Native.Nat.{ℕ, _≤_}
 use mathlib.Core.List.{List, [], _∷_}
 use mathlib.Core.Path.{_≡_}

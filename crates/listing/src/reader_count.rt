@@ -1,4 +1,5 @@
-// The traced reader count: how many threads hold read, where document 01 has their number, and whether it is that there.
+// The traced reader count: how many threads hold read, where document 01 has their number,
+// and whether it is that there.
 ghost use mathlib.Core.Bool.{true};
 ghost use mathlib.Core.Path.{_≡_};
 ghost use Prim.Native.Nat.{_≤_};
@@ -113,8 +114,8 @@ fn held(m: Machine, readers: u64) -> Readers
     )
 }
 
-// The readers of a machine, traced. Refused on a bad thread count, which is tested first, and where the listing is needed
-// and refused.
+// The readers of a machine, traced. Refused on a bad thread count, which is tested first,
+// and where the listing is needed and refused.
 pub fn reader_count(m: Machine) -> Readers
     ensures { λ r. ⌜ r ≡ readersOf m ⌝ }
 {

@@ -1,4 +1,5 @@
--- Beginning a call: refusals 3 and 4, and the call's first place. Beginning touches nothing shared. Assumes nothing.
+-- Beginning a call: refusals 3 and 4, and the call's first place. Beginning touches nothing shared.
+-- Assumes nothing.
 use Prim.Native.Nat.{ℕ}
 use mathlib.Core.Bool.{Bool, true, false}
 use lib.Dec.{ltb, eqb}
@@ -14,14 +15,17 @@ use Rattle.state.specs.declared.machine.Machine.{Machine}
 use Rattle.state.specs.declared.machine.Thread.{Thread}
 use Rattle.state.specs.declared.machine.Outcome.{Outcome}
 use Rattle.state.specs.declared.place.Place.{Place}
-use Rattle.state.specs.declared.place.Place.the-variants.{TryReadLoad, TryWriteOr, ReadUnlockLoad, WriteUnlockCas, DowngradeCas}
+use Rattle.state.specs.declared.place.Place.the-variants.{TryReadLoad, TryWriteOr, ReadUnlockLoad}
+use Rattle.state.specs.declared.place.Place.the-variants.{WriteUnlockCas, DowngradeCas}
 use Rattle.state.specs.Access.{accessOf}
 use Rattle.state.specs.declared.access.Kind.{Kind}
-use Rattle.state.specs.declared.access.Kind.the-variants.{Nothing, Load, Store, WeakCompare, StrongCompare, FetchOr, Subtract, Complete, Park}
+use Rattle.state.specs.declared.access.Kind.the-variants.{Nothing, Load, Store, WeakCompare, StrongCompare}
+use Rattle.state.specs.declared.access.Kind.the-variants.{FetchOr, Subtract, Complete, Park}
 use Rattle.word.specs.Number.{thread}
 use Rattle.lock.specs.Record.{withThread}
 use Rattle.lock.specs.declared.code.Call.{Call}
-use Rattle.lock.specs.declared.code.Call.the-variants.{Read, Write, TryRead, TryWrite, ReadUnlock, WriteUnlock, Downgrade}
+use Rattle.lock.specs.declared.code.Call.the-variants.{Read, Write, TryRead, TryWrite}
+use Rattle.lock.specs.declared.code.Call.the-variants.{ReadUnlock, WriteUnlock, Downgrade}
 
 -- the call's first access
 abbrev pub firstPlace : Call → Place

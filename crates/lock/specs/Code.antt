@@ -1,9 +1,12 @@
--- The event code byte: 0..6 begin read, write, try_read, try_write, read_unlock, write_unlock, downgrade; 16 steps, 17 fails for no cause. Assumes nothing.
+-- The event code byte: 0..6 begin read, write, try_read, try_write, read_unlock, write_unlock, downgrade;
+-- 16 steps, 17 fails for no cause.
+-- Assumes nothing.
 use Prim.Native.Nat.{ℕ}
 use lib.Dec.{leb, eqb}
 use Rattle.word.specs.Base.{pick}
 use Rattle.lock.specs.declared.code.Call.{Call}
-use Rattle.lock.specs.declared.code.Call.the-variants.{Read, Write, TryRead, TryWrite, ReadUnlock, WriteUnlock, Downgrade}
+use Rattle.lock.specs.declared.code.Call.the-variants.{Read, Write, TryRead, TryWrite}
+use Rattle.lock.specs.declared.code.Call.the-variants.{ReadUnlock, WriteUnlock, Downgrade}
 use Rattle.lock.specs.declared.code.Code.{Code}
 use Rattle.lock.specs.declared.code.Code.the-variants.{Begin, Step, Fail, Unknown}
 

@@ -1,4 +1,6 @@
--- What an event did to the lock and to the queue, read off the machine before and the machine after it. A refused event, which leaves the machine as it was, did nothing. Assumes nothing.
+-- What an event did to the lock and to the queue, read off the machine before and the machine after it. A refused
+-- event, which leaves the machine as it was, did nothing.
+-- Assumes nothing.
 use mathlib.Core.Bool.{Bool, true, false, not}
 use lib.Dec.{ltb, eqb}
 use Rattle.word.specs.Base.{pick}
@@ -10,9 +12,10 @@ use Rattle.state.specs.Machine.{threadAt}
 use Rattle.state.specs.declared.holding.Holding.{Holding}
 use Rattle.state.specs.declared.machine.Machine.{Machine}
 use Rattle.state.specs.declared.place.Place.{Place}
-use Rattle.state.specs.declared.place.Place.the-variants.{Idle, TryReadLoad, TryReadCas, TryWriteOr, ContendLoad, ContendCas, RegisterCas, CompletedLoad, Park, WalkTail, WalkNext, WalkPrev, WalkHead, QueueCas, SplitPrev, SplitStore, SplitCas, SplitRestore, TakeCas, WakePrev, WakeStore, ReadUnlockLoad, ReadUnlockCas, Subtract, WriteUnlockCas, ReleaseCas, DowngradeCas, DowngradeSlowCas}
+use Rattle.state.specs.declared.place.Place.the-variants as At
 
--- what happened to the lock: grants and releases at the access that changes the word, a contended reader's release at its subtraction
+-- what happened to the lock: grants and releases at the access that changes the word,
+-- a contended reader's release at its subtraction
 pub data LockEffect : Type 0 where
   keeps : LockEffect
   grantsRead : LockEffect
@@ -48,34 +51,34 @@ pub data Stand : Type 0 where
   elsewhere : Stand
 
 unfoldable pub standOf : Place → Stand
-standOf Idle = ended
-standOf (TryReadLoad _) = elsewhere
-standOf (TryReadCas _ _) = elsewhere
-standOf (TryWriteOr _) = elsewhere
-standOf (ContendLoad _ _) = elsewhere
-standOf (ContendCas _ _ _) = elsewhere
-standOf (RegisterCas _ _ _) = elsewhere
-standOf (CompletedLoad _) = waits
-standOf (Park _) = elsewhere
-standOf (WalkTail _ _ _) = walks
-standOf (WalkNext _ _ _) = elsewhere
-standOf (WalkPrev _ _ _ _) = elsewhere
-standOf (WalkHead _ _ _) = elsewhere
-standOf (QueueCas _ _) = elsewhere
-standOf (SplitPrev _ _ _) = elsewhere
-standOf (SplitStore _ _ _ _) = elsewhere
-standOf (SplitCas _ _ _) = splitting
-standOf (SplitRestore _ _ _ _) = elsewhere
-standOf (TakeCas _ _ _) = elsewhere
-standOf (WakePrev _ _) = wakes
-standOf (WakeStore _ _ _) = completing
-standOf ReadUnlockLoad = elsewhere
-standOf (ReadUnlockCas _) = elsewhere
-standOf (Subtract _ _) = elsewhere
-standOf WriteUnlockCas = elsewhere
-standOf (ReleaseCas _) = releasing
-standOf DowngradeCas = elsewhere
-standOf (DowngradeSlowCas _) = elsewhere
+standOf At.Idle = ended
+standOf (At.TryReadLoad _) = elsewhere
+standOf (At.TryReadCas _ _) = elsewhere
+standOf (At.TryWriteOr _) = elsewhere
+standOf (At.ContendLoad _ _) = elsewhere
+standOf (At.ContendCas _ _ _) = elsewhere
+standOf (At.RegisterCas _ _ _) = elsewhere
+standOf (At.CompletedLoad _) = waits
+standOf (At.Park _) = elsewhere
+standOf (At.WalkTail _ _ _) = walks
+standOf (At.WalkNext _ _ _) = elsewhere
+standOf (At.WalkPrev _ _ _ _) = elsewhere
+standOf (At.WalkHead _ _ _) = elsewhere
+standOf (At.QueueCas _ _) = elsewhere
+standOf (At.SplitPrev _ _ _) = elsewhere
+standOf (At.SplitStore _ _ _ _) = elsewhere
+standOf (At.SplitCas _ _ _) = splitting
+standOf (At.SplitRestore _ _ _ _) = elsewhere
+standOf (At.TakeCas _ _ _) = elsewhere
+standOf (At.WakePrev _ _) = wakes
+standOf (At.WakeStore _ _ _) = completing
+standOf At.ReadUnlockLoad = elsewhere
+standOf (At.ReadUnlockCas _) = elsewhere
+standOf (At.Subtract _ _) = elsewhere
+standOf At.WriteUnlockCas = elsewhere
+standOf (At.ReleaseCas _) = releasing
+standOf At.DowngradeCas = elsewhere
+standOf (At.DowngradeSlowCas _) = elsewhere
 
 -- the call has ended
 abbrev pub atEnd : Stand → Bool
@@ -173,65 +176,65 @@ releaseOf h = pick (ltb 0 (writesOf h)) releasesWrite (pick (ltb 0 (readsOf h)) 
 
 -- by the place before, what was held, whether the word changed, and where the thread stands after
 unfoldable pub lockEffect : Place → Holding → Bool → Stand → LockEffect
-lockEffect Idle h changed s = keeps
-lockEffect (TryReadLoad _) h changed s = keeps
-lockEffect (TryReadCas _ _) h changed s = pick changed grantsRead keeps
-lockEffect (TryWriteOr _) h changed s = pick changed grantsWrite keeps
-lockEffect (ContendLoad _ _) h changed s = keeps
-lockEffect (ContendCas writer _ _) h changed s = pick (atEnd s) (pick writer grantsWrite grantsRead) keeps
-lockEffect (RegisterCas _ _ _) h changed s = keeps
-lockEffect (CompletedLoad _) h changed s = keeps
-lockEffect (Park _) h changed s = keeps
-lockEffect (WalkTail _ _ _) h changed s = keeps
-lockEffect (WalkNext _ _ _) h changed s = keeps
-lockEffect (WalkPrev _ _ _ _) h changed s = keeps
-lockEffect (WalkHead _ _ _) h changed s = keeps
-lockEffect (QueueCas _ _) h changed s = keeps
-lockEffect (SplitPrev _ _ _) h changed s = keeps
-lockEffect (SplitStore _ _ _ _) h changed s = keeps
-lockEffect (SplitCas _ _ _) h changed s = keeps
-lockEffect (SplitRestore _ _ _ _) h changed s = keeps
-lockEffect (TakeCas _ _ _) h changed s = keeps
-lockEffect (WakePrev _ _) h changed s = keeps
-lockEffect (WakeStore _ _ _) h changed s = keeps
-lockEffect ReadUnlockLoad h changed s = keeps
-lockEffect (ReadUnlockCas _) h changed s = pick (atEnd s) releasesRead keeps
-lockEffect (Subtract _ _) h changed s = pick (atEndOrRelease s) releasesRead keeps
-lockEffect WriteUnlockCas h changed s = pick (atEnd s) releasesWrite keeps
-lockEffect (ReleaseCas _) h changed s = pick (atEndOrWalk s) (releaseOf h) keeps
-lockEffect DowngradeCas h changed s = pick (atEnd s) downgrades keeps
-lockEffect (DowngradeSlowCas _) h changed s = pick (atEndOrWalk s) downgrades keeps
+lockEffect At.Idle h changed s = keeps
+lockEffect (At.TryReadLoad _) h changed s = keeps
+lockEffect (At.TryReadCas _ _) h changed s = pick changed grantsRead keeps
+lockEffect (At.TryWriteOr _) h changed s = pick changed grantsWrite keeps
+lockEffect (At.ContendLoad _ _) h changed s = keeps
+lockEffect (At.ContendCas writer _ _) h changed s = pick (atEnd s) (pick writer grantsWrite grantsRead) keeps
+lockEffect (At.RegisterCas _ _ _) h changed s = keeps
+lockEffect (At.CompletedLoad _) h changed s = keeps
+lockEffect (At.Park _) h changed s = keeps
+lockEffect (At.WalkTail _ _ _) h changed s = keeps
+lockEffect (At.WalkNext _ _ _) h changed s = keeps
+lockEffect (At.WalkPrev _ _ _ _) h changed s = keeps
+lockEffect (At.WalkHead _ _ _) h changed s = keeps
+lockEffect (At.QueueCas _ _) h changed s = keeps
+lockEffect (At.SplitPrev _ _ _) h changed s = keeps
+lockEffect (At.SplitStore _ _ _ _) h changed s = keeps
+lockEffect (At.SplitCas _ _ _) h changed s = keeps
+lockEffect (At.SplitRestore _ _ _ _) h changed s = keeps
+lockEffect (At.TakeCas _ _ _) h changed s = keeps
+lockEffect (At.WakePrev _ _) h changed s = keeps
+lockEffect (At.WakeStore _ _ _) h changed s = keeps
+lockEffect At.ReadUnlockLoad h changed s = keeps
+lockEffect (At.ReadUnlockCas _) h changed s = pick (atEnd s) releasesRead keeps
+lockEffect (At.Subtract _ _) h changed s = pick (atEndOrRelease s) releasesRead keeps
+lockEffect At.WriteUnlockCas h changed s = pick (atEnd s) releasesWrite keeps
+lockEffect (At.ReleaseCas _) h changed s = pick (atEndOrWalk s) (releaseOf h) keeps
+lockEffect At.DowngradeCas h changed s = pick (atEnd s) downgrades keeps
+lockEffect (At.DowngradeSlowCas _) h changed s = pick (atEndOrWalk s) downgrades keeps
 
 -- by the thread, the place before and where the thread stands after
 unfoldable pub queueEffect : ThreadNumber → Place → Stand → QueueEffect
-queueEffect me Idle s = stands
-queueEffect me (TryReadLoad _) s = stands
-queueEffect me (TryReadCas _ _) s = stands
-queueEffect me (TryWriteOr _) s = stands
-queueEffect me (ContendLoad _ _) s = stands
-queueEffect me (ContendCas _ _ _) s = stands
-queueEffect me (RegisterCas _ _ _) s = pick (atWait s) (registers (nodeOf me)) stands
-queueEffect me (CompletedLoad _) s = stands
-queueEffect me (Park _) s = stands
-queueEffect me (WalkTail _ _ _) s = stands
-queueEffect me (WalkNext _ _ _) s = stands
-queueEffect me (WalkPrev _ _ _ _) s = stands
-queueEffect me (WalkHead _ _ _) s = stands
-queueEffect me (QueueCas _ _) s = stands
-queueEffect me (SplitPrev _ _ _) s = stands
-queueEffect me (SplitStore _ _ tail _) s = pick (atSplit s) (setsAside tail) stands
-queueEffect me (SplitCas _ _ tail) s = pick (atComplete s) (takesTail tail) stands
-queueEffect me (SplitRestore _ _ tail _) s = pick (atWalk s) (restores tail) stands
-queueEffect me (TakeCas _ _ _) s = pick (atWake s) takesAll stands
-queueEffect me (WakePrev _ _) s = stands
-queueEffect me (WakeStore _ current _) s = pick (atComplete s) stands (completes current)
-queueEffect me ReadUnlockLoad s = stands
-queueEffect me (ReadUnlockCas _) s = stands
-queueEffect me (Subtract _ _) s = stands
-queueEffect me WriteUnlockCas s = stands
-queueEffect me (ReleaseCas _) s = stands
-queueEffect me DowngradeCas s = stands
-queueEffect me (DowngradeSlowCas _) s = pick (atWalk s) takesAll stands
+queueEffect me At.Idle s = stands
+queueEffect me (At.TryReadLoad _) s = stands
+queueEffect me (At.TryReadCas _ _) s = stands
+queueEffect me (At.TryWriteOr _) s = stands
+queueEffect me (At.ContendLoad _ _) s = stands
+queueEffect me (At.ContendCas _ _ _) s = stands
+queueEffect me (At.RegisterCas _ _ _) s = pick (atWait s) (registers (nodeOf me)) stands
+queueEffect me (At.CompletedLoad _) s = stands
+queueEffect me (At.Park _) s = stands
+queueEffect me (At.WalkTail _ _ _) s = stands
+queueEffect me (At.WalkNext _ _ _) s = stands
+queueEffect me (At.WalkPrev _ _ _ _) s = stands
+queueEffect me (At.WalkHead _ _ _) s = stands
+queueEffect me (At.QueueCas _ _) s = stands
+queueEffect me (At.SplitPrev _ _ _) s = stands
+queueEffect me (At.SplitStore _ _ tail _) s = pick (atSplit s) (setsAside tail) stands
+queueEffect me (At.SplitCas _ _ tail) s = pick (atComplete s) (takesTail tail) stands
+queueEffect me (At.SplitRestore _ _ tail _) s = pick (atWalk s) (restores tail) stands
+queueEffect me (At.TakeCas _ _ _) s = pick (atWake s) takesAll stands
+queueEffect me (At.WakePrev _ _) s = stands
+queueEffect me (At.WakeStore _ current _) s = pick (atComplete s) stands (completes current)
+queueEffect me At.ReadUnlockLoad s = stands
+queueEffect me (At.ReadUnlockCas _) s = stands
+queueEffect me (At.Subtract _ _) s = stands
+queueEffect me At.WriteUnlockCas s = stands
+queueEffect me (At.ReleaseCas _) s = stands
+queueEffect me At.DowngradeCas s = stands
+queueEffect me (At.DowngradeSlowCas _) s = pick (atWalk s) takesAll stands
 
 abbrev pub wordChanged : Machine → Machine → Bool
 wordChanged m after = not (eqb (after .word .0) (m .word .0))

@@ -1,4 +1,5 @@
--- One event, with the refusals in document 01's order: 8 for the count, 1, 2, then those of a begin or of a step. Assumes nothing.
+-- One event, with the refusals in document 01's order: 8 for the count, 1, 2, then those of a begin or of a step.
+-- Assumes nothing.
 use Prim.Native.Nat.{ℕ}
 use mathlib.Core.Bool.{Bool, true, false}
 use lib.Dec.{leb}

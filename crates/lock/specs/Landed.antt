@@ -1,4 +1,5 @@
--- A step's change stored in the machine: word, one node, the thread's record, then the token of the thread woken. Assumes nothing.
+-- A step's change stored in the machine: word, one node, the thread's record, then the token of the thread woken.
+-- Assumes nothing.
 use Prim.Native.Nat.{ℕ}
 use mathlib.Core.Bool.{true}
 use lib.Dec.{ltb}

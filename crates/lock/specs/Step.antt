@@ -1,4 +1,5 @@
--- A step, code 16, or a step that fails for no cause, code 17: refusals 5, 6, 7, then 8, then the rule of the place. Assumes nothing.
+-- A step, code 16, or a step that fails for no cause, code 17: refusals 5, 6, 7, then 8, then the rule of the place.
+-- Assumes nothing.
 use Prim.Native.Nat.{ℕ}
 use mathlib.Core.Bool.{Bool}
 use Rattle.word.specs.Base.{pick}
@@ -10,14 +11,15 @@ use Rattle.word.specs.declared.number.Slot.the-variants.{Outside, At}
 use Rattle.state.specs.Access.{accessOf, touchedOf}
 use Rattle.state.specs.Machine.{threadAt, nodeAt, refusedOf}
 use Rattle.state.specs.declared.access.Kind.{Kind}
-use Rattle.state.specs.declared.access.Kind.the-variants.{Nothing, Load, Store, WeakCompare, StrongCompare, FetchOr, Subtract as Subtracting, Complete, Park as Parking}
+use Rattle.state.specs.declared.access.Kind.the-variants.{Nothing, Load, Store, WeakCompare, StrongCompare, FetchOr}
+use Rattle.state.specs.declared.access.Kind.the-variants.{Subtract as Subtracting, Complete, Park as Parking}
 use Rattle.state.specs.declared.answer.Refusal.the-variants.{NotInCall, NoToken, CannotFail, Damaged}
 use Rattle.state.specs.declared.answer.Verdict.{Verdict}
 use Rattle.state.specs.declared.answer.Verdict.the-variants.{Fine, Refused}
 use Rattle.state.specs.declared.machine.Machine.{Machine}
 use Rattle.state.specs.declared.machine.Outcome.{Outcome}
 use Rattle.state.specs.declared.place.Place.{Place}
-use Rattle.state.specs.declared.place.Place.the-variants.{Idle, TryReadLoad, TryReadCas, TryWriteOr, ContendLoad, ContendCas, RegisterCas, CompletedLoad, Park, WalkTail, WalkNext, WalkPrev, WalkHead, QueueCas, SplitPrev, SplitStore, SplitCas, SplitRestore, TakeCas, WakePrev, WakeStore, ReadUnlockLoad, ReadUnlockCas, Subtract, WriteUnlockCas, ReleaseCas, DowngradeCas, DowngradeSlowCas}
+use Rattle.state.specs.declared.place.Place.the-variants as At
 use Rattle.state.specs.declared.view.Mark.{Mark}
 use Rattle.state.specs.declared.view.Mark.the-variants.{Missing, Reader, Writer}
 use Rattle.state.specs.declared.view.View.{View}
@@ -46,34 +48,34 @@ haltedOf Complete token fails = failingOf fails
 
 -- the tail whose writer mark the local code reads, after the store of the tail in the head
 unfoldable pub markedOf : Place → NodeNumber
-markedOf Idle = none
-markedOf (TryReadLoad _) = none
-markedOf (TryReadCas _ _) = none
-markedOf (TryWriteOr _) = none
-markedOf (ContendLoad _ _) = none
-markedOf (ContendCas _ _ _) = none
-markedOf (RegisterCas _ _ _) = none
-markedOf (CompletedLoad _) = none
-markedOf (Park _) = none
-markedOf (WalkTail _ _ _) = none
-markedOf (WalkNext _ _ _) = none
-markedOf (WalkPrev _ _ _ _) = none
-markedOf (WalkHead walk seen tail) = tail
-markedOf (QueueCas _ _) = none
-markedOf (SplitPrev _ _ _) = none
-markedOf (SplitStore _ _ _ _) = none
-markedOf (SplitCas _ _ _) = none
-markedOf (SplitRestore _ _ _ _) = none
-markedOf (TakeCas _ _ _) = none
-markedOf (WakePrev _ _) = none
-markedOf (WakeStore _ _ _) = none
-markedOf ReadUnlockLoad = none
-markedOf (ReadUnlockCas _) = none
-markedOf (Subtract _ _) = none
-markedOf WriteUnlockCas = none
-markedOf (ReleaseCas _) = none
-markedOf DowngradeCas = none
-markedOf (DowngradeSlowCas _) = none
+markedOf At.Idle = none
+markedOf (At.TryReadLoad _) = none
+markedOf (At.TryReadCas _ _) = none
+markedOf (At.TryWriteOr _) = none
+markedOf (At.ContendLoad _ _) = none
+markedOf (At.ContendCas _ _ _) = none
+markedOf (At.RegisterCas _ _ _) = none
+markedOf (At.CompletedLoad _) = none
+markedOf (At.Park _) = none
+markedOf (At.WalkTail _ _ _) = none
+markedOf (At.WalkNext _ _ _) = none
+markedOf (At.WalkPrev _ _ _ _) = none
+markedOf (At.WalkHead walk seen tail) = tail
+markedOf (At.QueueCas _ _) = none
+markedOf (At.SplitPrev _ _ _) = none
+markedOf (At.SplitStore _ _ _ _) = none
+markedOf (At.SplitCas _ _ _) = none
+markedOf (At.SplitRestore _ _ _ _) = none
+markedOf (At.TakeCas _ _ _) = none
+markedOf (At.WakePrev _ _) = none
+markedOf (At.WakeStore _ _ _) = none
+markedOf At.ReadUnlockLoad = none
+markedOf (At.ReadUnlockCas _) = none
+markedOf (At.Subtract _ _) = none
+markedOf At.WriteUnlockCas = none
+markedOf (At.ReleaseCas _) = none
+markedOf At.DowngradeCas = none
+markedOf (At.DowngradeSlowCas _) = none
 
 abbrev pub markAt : Machine → ℕ → Mark
 markAt m k = pick (nodeAt m k .writer) Writer Reader

@@ -1,4 +1,6 @@
--- How a machine reads after a change is stored and a thread woken: word, count, each node, each thread's place, holding and token. Assumes nothing.
+-- How a machine reads after a change is stored and a thread woken: word, count, each node,
+-- each thread's place, holding and token.
+-- Assumes nothing.
 use Prim.Native.Nat.{ℕ, zero, suc}
 use mathlib.Core.List.{List, [], _∷_}
 use mathlib.Core.Logic.{_⊎_, inl, inr, ⊎-elim}
@@ -16,7 +18,8 @@ use Rattle.state.specs.declared.machine.Thread.{Thread}
 use Rattle.lock.specs.Landed.{tokenedOf, tokenSet, wokenOf}
 
 -- a list after a store reads at u as what was stored, or as before
-pub get-set : {A : Type 0} (l : List A) (i u : ℕ) (x d : A) → ((u ≡ i) × (getD (set l i x) u d ≡ x)) ⊎ (getD (set l i x) u d ≡ getD l u d)
+pub get-set : {A : Type 0} (l : List A) (i u : ℕ) (x d : A)
+    → ((u ≡ i) × (getD (set l i x) u d ≡ x)) ⊎ (getD (set l i x) u d ≡ getD l u d)
 get-set [] i u x d = inr refl
 get-set (y ∷ l) zero zero x d = inl (refl, refl)
 get-set (y ∷ l) zero (suc u) x d = inr refl
@@ -26,15 +29,18 @@ get-set (y ∷ l) (suc i) (suc u) x d = ⊎-elim (λ h. inl (ap suc (h .0), h .1
 -- waking changes neither count, word nor nodes
 pub woken-count : (m : Machine) (w : Owner) → wokenOf m w .count ≡ m .count
 woken-count m Nobody = refl
-woken-count m (Somebody t) = pick-both (λ (x : Machine). x .count ≡ m .count) (ltb (t .0) threadLimit) _ m (λ _. refl) (λ _. refl)
+woken-count m (Somebody t) =
+    pick-both (λ (x : Machine). x .count ≡ m .count) (ltb (t .0) threadLimit) _ m (λ _. refl) (λ _. refl)
 
 pub woken-word : (m : Machine) (w : Owner) → wokenOf m w .word ≡ m .word
 woken-word m Nobody = refl
-woken-word m (Somebody t) = pick-both (λ (x : Machine). x .word ≡ m .word) (ltb (t .0) threadLimit) _ m (λ _. refl) (λ _. refl)
+woken-word m (Somebody t) =
+    pick-both (λ (x : Machine). x .word ≡ m .word) (ltb (t .0) threadLimit) _ m (λ _. refl) (λ _. refl)
 
 pub woken-nodes : (m : Machine) (w : Owner) → wokenOf m w .nodes ≡ m .nodes
 woken-nodes m Nobody = refl
-woken-nodes m (Somebody t) = pick-both (λ (x : Machine). x .nodes ≡ m .nodes) (ltb (t .0) threadLimit) _ m (λ _. refl) (λ _. refl)
+woken-nodes m (Somebody t) =
+    pick-both (λ (x : Machine). x .nodes ≡ m .nodes) (ltb (t .0) threadLimit) _ m (λ _. refl) (λ _. refl)
 
 -- a thread's record after a wake: with its token set if it is the one woken, else as before
 pub data Woken (m : Machine) (w : Owner) (u : ℕ) : Type 0 where
@@ -54,7 +60,8 @@ token-set m t u =
     (ltb (t .0) threadLimit)
     (withThreads m (set (m .threads) (t .0) (tokenedOf (threadAt m (t .0)))))
     m
-    (λ _. ⊎-elim (λ h. inl (h .0, h .1 ∙ ap (λ (z : ℕ). tokenedOf (threadAt m z)) (sym (h .0)))) inr (get-set (m .threads) (t .0) u (tokenedOf (threadAt m (t .0))) blankThread))
+    (λ _. ⊎-elim (λ h. inl (h .0, h .1 ∙ ap (λ (z : ℕ). tokenedOf (threadAt m z)) (sym (h .0)))) inr
+    (get-set (m .threads) (t .0) u (tokenedOf (threadAt m (t .0))) blankThread))
     (λ _. inr refl)
 
 pub woken-thread : (m : Machine) (w : Owner) (u : ℕ) → Woken m w u

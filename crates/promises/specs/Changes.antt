@@ -1,4 +1,6 @@
--- Where a rule grants, releases or downgrades, the word changes, but for a contended reader's subtraction: each such place by its own words. Assumes nothing.
+-- Where a rule grants, releases or downgrades, the word changes, but for a contended reader's subtraction:
+-- each such place by its own words.
+-- Assumes nothing.
 use Prim.Native.Nat.{ℕ, _+_, _-_, _<_}
 use mathlib.Core.Bool.{Bool, true, false, not}
 use mathlib.Core.Logic.{_⊎_, inl, inr}
@@ -8,7 +10,8 @@ use borrow.Author.Tests.{ne-eqb, eqb-true}
 use lib.Dec.{T, eqb, ltb}
 use Rattle.word.specs.Base.{pick}
 use Rattle.word.specs.Cases.{pick-both}
-use Rattle.word.specs.Flags.{word, LOCKED, QUEUE-LOCKED, DOWNGRADED, SINGLE, locked, queued, queueLocked, downgraded, clearLocked, setQueueLocked, setDowngraded}
+use Rattle.word.specs.Flags.{word, LOCKED, QUEUE-LOCKED, DOWNGRADED, SINGLE, locked, queued}
+use Rattle.word.specs.Flags.{queueLocked, downgraded, clearLocked, setQueueLocked, setDowngraded}
 use Rattle.word.specs.Rules.{readLockOf, writeLockOf, readUnlockOf}
 use Rattle.word.specs.Laws.{read-lock-more, write-lock-granted, read-unlock-less, clear-has, set-has, set-keeps}
 use Rattle.word.specs.declared.flags.Word.{Word}
@@ -23,13 +26,14 @@ use Rattle.state.specs.declared.answer.Answer.the-variants.{Done}
 use Rattle.state.specs.declared.holding.Holding.{Holding}
 use Rattle.state.specs.declared.holding.Holding.the-variants.{Nothing as HoldsNothing, Read}
 use Rattle.state.specs.declared.place.Place.{Place}
-use Rattle.state.specs.declared.place.Place.the-variants.{Idle, TryReadLoad, TryReadCas, TryWriteOr, ContendLoad, ContendCas, RegisterCas, CompletedLoad, Park, WalkTail, WalkNext, WalkPrev, WalkHead, QueueCas, SplitPrev, SplitStore, SplitCas, SplitRestore, TakeCas, WakePrev, WakeStore, ReadUnlockLoad, ReadUnlockCas, Subtract, WriteUnlockCas, ReleaseCas, DowngradeCas, DowngradeSlowCas}
+use Rattle.state.specs.declared.place.Place.the-variants as At
 use Rattle.state.specs.declared.view.View.{View}
 use Rattle.state.specs.declared.view.Next.{Next}
 use Rattle.state.specs.declared.view.Change.{Change}
 use Rattle.state.specs.declared.view.Stepped.{Stepped}
 use Rattle.state.specs.declared.view.Stepped.the-variants.{To, Refused}
-use Rattle.acquire.specs.LockContended.{permittedOf, byRead, byWrite, grantedOf, fillOf, contendBy, contendJudged, contendCasBy, contendCasOf, spinCount}
+use Rattle.acquire.specs.LockContended.{permittedOf, byRead, byWrite, grantedOf, fillOf, contendBy}
+use Rattle.acquire.specs.LockContended.{contendJudged, contendCasBy, contendCasOf, spinCount}
 use Rattle.acquire.specs.declared.lock_contended.Permitted.{Permitted}
 use Rattle.acquire.specs.declared.lock_contended.Permitted.the-variants.{To as PermitTo, Refused as PermitRefused}
 use Rattle.release.specs.ReadUnlock.{readUnlockBy, readUnlockJudged, readUnlockCasBy, readUnlockCasOf}
@@ -85,7 +89,9 @@ permit-more : (writer : Bool) (seen to : Word) → permittedOf writer seen ≡ P
 permit-more true seen to e = by (writeLockOf seen) refl e
   where
     by : (r : WriteLocked) → writeLockOf seen ≡ r → byWrite r ≡ PermitTo to → seen .0 < to .0
-    by (WriteTo x) q h = let i : x ≡ to = cc in omega (arith, ap (λ (y : Word). y .0) (write-lock-granted seen x q .1), ap (λ (y : Word). y .0) i)
+    by (WriteTo x) q h =
+        let i : x ≡ to = cc in
+        omega (arith, ap (λ (y : Word). y .0) (write-lock-granted seen x q .1), ap (λ (y : Word). y .0) i)
     by WriteRefused q h = let z : _≡_ {A = ℕ} 0 1 = cc in absurd (omega arith)
 permit-more false seen to e = by (readLockOf seen) refl e
   where
@@ -105,7 +111,9 @@ released-unlocked seen =
 
 release-changes : (seen : Word) → contended seen ≡ true → releasedTo seen .0 ≡ seen .0 → ⊥
 release-changes seen c e =
-    apart locked seen (releasedTo seen) (and-first (locked seen) (not (downgraded seen)) (and-second (queued seen) (and (locked seen) (not (downgraded seen))) c)) (released-unlocked seen) (sym e)
+    apart locked seen (releasedTo seen)
+    (and-first (locked seen) (not (downgraded seen))
+    (and-second (queued seen) (and (locked seen) (not (downgraded seen))) c)) (released-unlocked seen) (sym e)
 
 -- a downgrade puts DOWNGRADED on, or takes QUEUED off
 downgrade-changes : (seen : Word) → contended seen ≡ true → downgradedWord seen .0 ≡ seen .0 → ⊥
@@ -115,128 +123,168 @@ downgrade-changes seen c =
     (queueLocked seen)
     (setDowngraded seen)
     (word (SINGLE + LOCKED))
-    (λ _ e. apart downgraded (setDowngraded seen) seen (set-has DOWNGRADED refl seen) (not-flag (downgraded seen) (and-second (locked seen) (not (downgraded seen)) rest)) e)
-    (λ _ e. apart queued seen (word (SINGLE + LOCKED)) (and-first (queued seen) (and (locked seen) (not (downgraded seen))) c) refl (sym e))
+    (λ _ e. apart downgraded (setDowngraded seen) seen (set-has DOWNGRADED refl seen)
+    (not-flag (downgraded seen) (and-second (locked seen) (not (downgraded seen)) rest)) e)
+    (λ _ e. apart queued seen (word (SINGLE + LOCKED))
+    (and-first (queued seen) (and (locked seen) (not (downgraded seen))) c) refl (sym e))
 
 -- ── the places ──
 
 module _ (v : View) where
   -- a compare that agreed on the word seen, and writes another one
-  written : (p : Place) (seen w : Word) (h : Holding) (next : Next) → agreesOf v seen ≡ true → (w .0 ≡ seen .0 → ⊥) → All (Moves v p) (writes v w h next)
+  written : (p : Place) (seen w : Word) (h : Holding) (next : Next)
+      → agreesOf v seen ≡ true
+      → (w .0 ≡ seen .0 → ⊥)
+      → All (Moves v p) (writes v w h next)
   written p seen w h next a n = inr (inl (changed (w .0) (v .word .0) (λ e. n (e ∙ agrees-word v seen a))))
 
-  contend-by : (writer : Bool) (reloads : ℕ) (seen : Word) (r : Permitted) → All (Moves v (ContendCas writer reloads seen)) (contendBy v writer reloads (v .word) r)
+  contend-by : (writer : Bool) (reloads : ℕ) (seen : Word) (r : Permitted)
+      → All (Moves v (At.ContendCas writer reloads seen)) (contendBy v writer reloads (v .word) r)
   unfolding lockEffect standOf
   contend-by writer reloads seen (PermitTo to) = inl refl
   contend-by writer reloads seen PermitRefused =
-      pick-both (All (Moves v (ContendCas writer reloads seen)))
+      pick-both (All (Moves v (At.ContendCas writer reloads seen)))
       (queued (v .word))
       (fillOf v writer reloads (v .word))
-      (pick (ltb reloads spinCount) (stays v (at (ContendLoad writer (reloads + 1)))) (fillOf v writer reloads (v .word)))
+      (pick (ltb reloads spinCount) (stays v (at (At.ContendLoad writer (reloads + 1))))
+      (fillOf v writer reloads (v .word)))
       (λ _. inl refl)
-      (λ _. pick-both (All (Moves v (ContendCas writer reloads seen))) (ltb reloads spinCount) (stays v (at (ContendLoad writer (reloads + 1)))) (fillOf v writer reloads (v .word)) (λ _. inl refl) (λ _. inl refl))
+      (λ _. pick-both (All (Moves v (At.ContendCas writer reloads seen))) (ltb reloads spinCount)
+      (stays v (at (At.ContendLoad writer (reloads + 1)))) (fillOf v writer reloads (v .word))
+      (λ _. inl refl) (λ _. inl refl))
 
-  contend-compared : (writer : Bool) (reloads : ℕ) (seen : Word) (r : Permitted) → permittedOf writer seen ≡ r → agreesOf v seen ≡ true → All (Moves v (ContendCas writer reloads seen)) (contendCasBy v writer reloads r)
-  contend-compared writer reloads seen (PermitTo to) e a = written (ContendCas writer reloads seen) seen to (grantedOf writer (v .holding)) (end Done) a (λ q. omega (arith, permit-more writer seen to e, q))
+  contend-compared : (writer : Bool) (reloads : ℕ) (seen : Word) (r : Permitted)
+      → permittedOf writer seen ≡ r
+      → agreesOf v seen ≡ true
+      → All (Moves v (At.ContendCas writer reloads seen)) (contendCasBy v writer reloads r)
+  contend-compared writer reloads seen (PermitTo to) e a =
+      written (At.ContendCas writer reloads seen) seen to (grantedOf writer (v .holding)) (end Done) a
+      (λ q. omega (arith, permit-more writer seen to e, q))
   contend-compared writer reloads seen PermitRefused e a = contend-by writer reloads seen (permittedOf writer (v .word))
 
-  contend-cas : (writer : Bool) (reloads : ℕ) (seen : Word) → All (Moves v (ContendCas writer reloads seen)) (contendCasOf v writer reloads seen)
+  contend-cas : (writer : Bool) (reloads : ℕ) (seen : Word)
+      → All (Moves v (At.ContendCas writer reloads seen)) (contendCasOf v writer reloads seen)
   contend-cas writer reloads seen =
-      pick-both (All (Moves v (ContendCas writer reloads seen)))
+      pick-both (All (Moves v (At.ContendCas writer reloads seen)))
       (agreesOf v seen)
       (contendCasBy v writer reloads (permittedOf writer seen))
       (contendJudged v writer reloads (v .word))
       (contend-compared writer reloads seen (permittedOf writer seen) refl)
       (λ _. contend-by writer reloads seen (permittedOf writer (v .word)))
 
-  read-unlock-by : (seen : Word) (r : ReadUnlocked) → All (Moves v (ReadUnlockCas seen)) (readUnlockBy v (v .word) r)
+  read-unlock-by : (seen : Word) (r : ReadUnlocked) → All (Moves v (At.ReadUnlockCas seen)) (readUnlockBy v (v .word) r)
   unfolding lockEffect standOf
   read-unlock-by seen (UnlockTo to) = inl refl
   read-unlock-by seen Contended = inl refl
   read-unlock-by seen UnlockRefused = tt
 
-  read-unlock-compared : (seen : Word) (r : ReadUnlocked) → readUnlockOf seen ≡ r → agreesOf v seen ≡ true → All (Moves v (ReadUnlockCas seen)) (readUnlockCasBy v r)
-  read-unlock-compared seen (UnlockTo to) e a = written (ReadUnlockCas seen) seen to HoldsNothing (end Done) a (λ q. omega (arith, read-unlock-less seen to e, q))
+  read-unlock-compared : (seen : Word) (r : ReadUnlocked)
+      → readUnlockOf seen ≡ r
+      → agreesOf v seen ≡ true
+      → All (Moves v (At.ReadUnlockCas seen)) (readUnlockCasBy v r)
+  read-unlock-compared seen (UnlockTo to) e a =
+      written (At.ReadUnlockCas seen) seen to HoldsNothing (end Done) a
+      (λ q. omega (arith, read-unlock-less seen to e, q))
   read-unlock-compared seen Contended e a = read-unlock-by seen (readUnlockOf (v .word))
   read-unlock-compared seen UnlockRefused e a = read-unlock-by seen (readUnlockOf (v .word))
 
-  read-unlock-cas : (seen : Word) → All (Moves v (ReadUnlockCas seen)) (readUnlockCasOf v seen)
+  read-unlock-cas : (seen : Word) → All (Moves v (At.ReadUnlockCas seen)) (readUnlockCasOf v seen)
   read-unlock-cas seen =
-      pick-both (All (Moves v (ReadUnlockCas seen)))
+      pick-both (All (Moves v (At.ReadUnlockCas seen)))
       (agreesOf v seen)
       (readUnlockCasBy v (readUnlockOf seen))
       (readUnlockJudged v (v .word))
       (read-unlock-compared seen (readUnlockOf seen) refl)
       (λ _. read-unlock-by seen (readUnlockOf (v .word)))
 
-  write-unlock-cas : All (Moves v WriteUnlockCas) (writeUnlockCasOf v)
+  write-unlock-cas : All (Moves v At.WriteUnlockCas) (writeUnlockCasOf v)
   unfolding lockEffect standOf
   write-unlock-cas =
-      pick-both (All (Moves v WriteUnlockCas))
+      pick-both (All (Moves v At.WriteUnlockCas))
       (eqb (v .word .0) LOCKED)
       (writes v (word 0) HoldsNothing (end Done))
-      (stays v (at (ReleaseCas (v .word))))
+      (stays v (at (At.ReleaseCas (v .word))))
       (λ e. inr (inl (changed 0 (v .word .0) (λ q. omega (arith, q, eqb-true (v .word .0) LOCKED e)))))
       (λ _. inl refl)
 
-  release-cas : (seen : Word) → contended seen ≡ true → All (Moves v (ReleaseCas seen)) (releaseCasOf v seen)
+  release-cas : (seen : Word) → contended seen ≡ true → All (Moves v (At.ReleaseCas seen)) (releaseCasOf v seen)
   unfolding lockEffect standOf
   release-cas seen c =
-      pick-both (All (Moves v (ReleaseCas seen)))
+      pick-both (All (Moves v (At.ReleaseCas seen)))
       (agreesOf v seen)
       (writes v (releasedTo seen) HoldsNothing (afterRelease seen (releasedTo seen)))
-      (stays v (at (ReleaseCas (v .word))))
-      (λ a. written (ReleaseCas seen) seen (releasedTo seen) HoldsNothing (afterRelease seen (releasedTo seen)) a (release-changes seen c))
+      (stays v (at (At.ReleaseCas (v .word))))
+      (λ a. written (At.ReleaseCas seen) seen (releasedTo seen) HoldsNothing (afterRelease seen (releasedTo seen)) a
+      (release-changes seen c))
       (λ _. inl refl)
 
-  downgrade-cas : All (Moves v DowngradeCas) (downgradeCasOf v)
+  downgrade-cas : All (Moves v At.DowngradeCas) (downgradeCasOf v)
   unfolding lockEffect standOf
   downgrade-cas =
-      pick-both (All (Moves v DowngradeCas))
+      pick-both (All (Moves v At.DowngradeCas))
       (eqb (v .word .0) LOCKED)
       (writes v (word (SINGLE + LOCKED)) Read (end Done))
-      (stays v (at (DowngradeSlowCas (v .word))))
+      (stays v (at (At.DowngradeSlowCas (v .word))))
       (λ e. inr (inl (changed (SINGLE + LOCKED) (v .word .0) (λ q. omega (arith, q, eqb-true (v .word .0) LOCKED e)))))
       (λ _. inl refl)
 
-  downgrade-slow-cas : (seen : Word) → contended seen ≡ true → All (Moves v (DowngradeSlowCas seen)) (downgradeSlowCasOf v seen)
+  downgrade-slow-cas : (seen : Word)
+      → contended seen ≡ true
+      → All (Moves v (At.DowngradeSlowCas seen)) (downgradeSlowCasOf v seen)
   unfolding lockEffect standOf
   downgrade-slow-cas seen c =
-      pick-both (All (Moves v (DowngradeSlowCas seen)))
+      pick-both (All (Moves v (At.DowngradeSlowCas seen)))
       (agreesOf v seen)
       (writes v (downgradedWord seen) Read (afterDowngrade seen))
-      (stays v (at (DowngradeSlowCas (v .word))))
-      (λ a. written (DowngradeSlowCas seen) seen (downgradedWord seen) Read (afterDowngrade seen) a (downgrade-changes seen c))
+      (stays v (at (At.DowngradeSlowCas (v .word))))
+      (λ a. written (At.DowngradeSlowCas seen) seen (downgradedWord seen) Read (afterDowngrade seen) a
+      (downgrade-changes seen c))
       (λ _. inl refl)
 
 -- every rule, at a place whose word is as queue.rs asserts
 pub moves : (v : View) (p : Place) → asserted p ≡ true → All (Moves v p) (advanceOf v p)
 unfolding advanceOf lockEffect asserted subtracting
-moves v Idle e = everywhere v Idle (λ c. inl refl) (advanceOf v Idle)
-moves v (TryReadLoad b) e = everywhere v (TryReadLoad b) (λ c. inl refl) (advanceOf v (TryReadLoad b))
-moves v (TryReadCas b seen) e = everywhere v (TryReadCas b seen) (λ c. by-change (not (eqb (c .word .0) (v .word .0))) grantsRead) (advanceOf v (TryReadCas b seen))
-moves v (TryWriteOr b) e = everywhere v (TryWriteOr b) (λ c. by-change (not (eqb (c .word .0) (v .word .0))) grantsWrite) (advanceOf v (TryWriteOr b))
-moves v (ContendLoad w r) e = everywhere v (ContendLoad w r) (λ c. inl refl) (advanceOf v (ContendLoad w r))
-moves v (ContendCas writer reloads seen) e = contend-cas v writer reloads seen
-moves v (RegisterCas w r seen) e = everywhere v (RegisterCas w r seen) (λ c. inl refl) (advanceOf v (RegisterCas w r seen))
-moves v (CompletedLoad w) e = everywhere v (CompletedLoad w) (λ c. inl refl) (advanceOf v (CompletedLoad w))
-moves v (Park w) e = everywhere v (Park w) (λ c. inl refl) (advanceOf v (Park w))
-moves v (WalkTail k seen c) e = everywhere v (WalkTail k seen c) (λ c. inl refl) (advanceOf v (WalkTail k seen c))
-moves v (WalkNext k seen c) e = everywhere v (WalkNext k seen c) (λ c. inl refl) (advanceOf v (WalkNext k seen c))
-moves v (WalkPrev k seen c n) e = everywhere v (WalkPrev k seen c n) (λ c. inl refl) (advanceOf v (WalkPrev k seen c n))
-moves v (WalkHead k seen z) e = everywhere v (WalkHead k seen z) (λ c. inl refl) (advanceOf v (WalkHead k seen z))
-moves v (QueueCas o seen) e = everywhere v (QueueCas o seen) (λ c. inl refl) (advanceOf v (QueueCas o seen))
-moves v (SplitPrev o seen z) e = everywhere v (SplitPrev o seen z) (λ c. inl refl) (advanceOf v (SplitPrev o seen z))
-moves v (SplitStore o seen z q) e = everywhere v (SplitStore o seen z q) (λ c. inl refl) (advanceOf v (SplitStore o seen z q))
-moves v (SplitCas o seen z) e = everywhere v (SplitCas o seen z) (λ c. inl refl) (advanceOf v (SplitCas o seen z))
-moves v (SplitRestore o seen z s) e = everywhere v (SplitRestore o seen z s) (λ c. inl refl) (advanceOf v (SplitRestore o seen z s))
-moves v (TakeCas o seen z) e = everywhere v (TakeCas o seen z) (λ c. inl refl) (advanceOf v (TakeCas o seen z))
-moves v (WakePrev o c) e = everywhere v (WakePrev o c) (λ c. inl refl) (advanceOf v (WakePrev o c))
-moves v (WakeStore o c q) e = everywhere v (WakeStore o c q) (λ c. inl refl) (advanceOf v (WakeStore o c q))
-moves v ReadUnlockLoad e = everywhere v ReadUnlockLoad (λ c. inl refl) (advanceOf v ReadUnlockLoad)
-moves v (ReadUnlockCas seen) e = read-unlock-cas v seen
-moves v (Subtract seen z) e = everywhere v (Subtract seen z) (λ c. inr (inr refl)) (advanceOf v (Subtract seen z))
-moves v WriteUnlockCas e = write-unlock-cas v
-moves v (ReleaseCas seen) e = release-cas v seen e
-moves v DowngradeCas e = downgrade-cas v
-moves v (DowngradeSlowCas seen) e = downgrade-slow-cas v seen e
+moves v At.Idle e = everywhere v At.Idle (λ c. inl refl) (advanceOf v At.Idle)
+moves v (At.TryReadLoad b) e = everywhere v (At.TryReadLoad b) (λ c. inl refl) (advanceOf v (At.TryReadLoad b))
+moves v (At.TryReadCas b seen) e =
+    everywhere v (At.TryReadCas b seen)
+    (λ c. by-change (not (eqb (c .word .0) (v .word .0))) grantsRead)
+    (advanceOf v (At.TryReadCas b seen))
+moves v (At.TryWriteOr b) e =
+    everywhere v (At.TryWriteOr b)
+    (λ c. by-change (not (eqb (c .word .0) (v .word .0))) grantsWrite)
+    (advanceOf v (At.TryWriteOr b))
+moves v (At.ContendLoad w r) e = everywhere v (At.ContendLoad w r) (λ c. inl refl) (advanceOf v (At.ContendLoad w r))
+moves v (At.ContendCas writer reloads seen) e = contend-cas v writer reloads seen
+moves v (At.RegisterCas w r seen) e =
+    everywhere v (At.RegisterCas w r seen) (λ c. inl refl) (advanceOf v (At.RegisterCas w r seen))
+moves v (At.CompletedLoad w) e = everywhere v (At.CompletedLoad w) (λ c. inl refl) (advanceOf v (At.CompletedLoad w))
+moves v (At.Park w) e = everywhere v (At.Park w) (λ c. inl refl) (advanceOf v (At.Park w))
+moves v (At.WalkTail k seen c) e =
+    everywhere v (At.WalkTail k seen c) (λ c. inl refl) (advanceOf v (At.WalkTail k seen c))
+moves v (At.WalkNext k seen c) e =
+    everywhere v (At.WalkNext k seen c) (λ c. inl refl) (advanceOf v (At.WalkNext k seen c))
+moves v (At.WalkPrev k seen c n) e =
+    everywhere v (At.WalkPrev k seen c n) (λ c. inl refl) (advanceOf v (At.WalkPrev k seen c n))
+moves v (At.WalkHead k seen z) e =
+    everywhere v (At.WalkHead k seen z) (λ c. inl refl) (advanceOf v (At.WalkHead k seen z))
+moves v (At.QueueCas o seen) e = everywhere v (At.QueueCas o seen) (λ c. inl refl) (advanceOf v (At.QueueCas o seen))
+moves v (At.SplitPrev o seen z) e =
+    everywhere v (At.SplitPrev o seen z) (λ c. inl refl) (advanceOf v (At.SplitPrev o seen z))
+moves v (At.SplitStore o seen z q) e =
+    everywhere v (At.SplitStore o seen z q) (λ c. inl refl) (advanceOf v (At.SplitStore o seen z q))
+moves v (At.SplitCas o seen z) e =
+    everywhere v (At.SplitCas o seen z) (λ c. inl refl) (advanceOf v (At.SplitCas o seen z))
+moves v (At.SplitRestore o seen z s) e =
+    everywhere v (At.SplitRestore o seen z s) (λ c. inl refl) (advanceOf v (At.SplitRestore o seen z s))
+moves v (At.TakeCas o seen z) e = everywhere v (At.TakeCas o seen z) (λ c. inl refl) (advanceOf v (At.TakeCas o seen z))
+moves v (At.WakePrev o c) e = everywhere v (At.WakePrev o c) (λ c. inl refl) (advanceOf v (At.WakePrev o c))
+moves v (At.WakeStore o c q) e = everywhere v (At.WakeStore o c q) (λ c. inl refl) (advanceOf v (At.WakeStore o c q))
+moves v At.ReadUnlockLoad e = everywhere v At.ReadUnlockLoad (λ c. inl refl) (advanceOf v At.ReadUnlockLoad)
+moves v (At.ReadUnlockCas seen) e = read-unlock-cas v seen
+moves v (At.Subtract seen z) e =
+    everywhere v (At.Subtract seen z) (λ c. inr (inr refl)) (advanceOf v (At.Subtract seen z))
+moves v At.WriteUnlockCas e = write-unlock-cas v
+moves v (At.ReleaseCas seen) e = release-cas v seen e
+moves v At.DowngradeCas e = downgrade-cas v
+moves v (At.DowngradeSlowCas seen) e = downgrade-slow-cas v seen e

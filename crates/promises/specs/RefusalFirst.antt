@@ -1,4 +1,6 @@
--- What "checked in this order" says of a table: a number is given exactly where a row of that number has its condition and no row before it has. Assumes nothing.
+-- What "checked in this order" says of a table: a number is given exactly where a row of that number has its
+-- condition and no row before it has.
+-- Assumes nothing.
 use Prim.Native.Nat.{ℕ, _<_}
 use mathlib.Core.Bool.{Bool, true, false}
 use mathlib.Core.List.{List, [], _∷_}

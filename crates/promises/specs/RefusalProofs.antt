@@ -1,4 +1,6 @@
--- The refusal table holds: an event gives the number of the table's first row whose condition holds, and a refused event changes nothing. Assumes nothing.
+-- The refusal table holds: an event gives the number of the table's first row whose condition holds,
+-- and a refused event changes nothing.
+-- Assumes nothing.
 use Prim.Native.Nat.{ℕ, zero, suc, _≤_, _<_, _+_}
 use mathlib.Core.Bool.{Bool, true, false, not}
 use mathlib.Core.List.{[], _∷_}
@@ -18,7 +20,8 @@ use Rattle.state.specs.Holding.{readsOf, writesOf}
 use Rattle.state.specs.Machine.{goodCount, threadAt, refusedOf}
 use Rattle.state.specs.declared.answer.Answer.{Answer}
 use Rattle.state.specs.declared.answer.Refusal.{Refusal}
-use Rattle.state.specs.declared.answer.Refusal.the-variants.{UnknownCode, NoThread, InsideCall, WrongHolding, NotInCall, NoToken, CannotFail, Damaged}
+use Rattle.state.specs.declared.answer.Refusal.the-variants.{UnknownCode, NoThread, InsideCall, WrongHolding}
+use Rattle.state.specs.declared.answer.Refusal.the-variants.{NotInCall, NoToken, CannotFail, Damaged}
 use Rattle.state.specs.declared.answer.Reply.{Reply}
 use Rattle.state.specs.declared.answer.Reply.the-variants.{Accepted, Refused}
 use Rattle.state.specs.declared.answer.Verdict.{Verdict}
@@ -28,7 +31,7 @@ use Rattle.state.specs.declared.holding.Holding.the-variants.{Nothing, Read, Wr
 use Rattle.state.specs.declared.machine.Machine.{Machine}
 use Rattle.state.specs.declared.machine.Outcome.{Outcome}
 use Rattle.state.specs.declared.place.Place.{Place}
-use Rattle.state.specs.declared.place.Place.the-variants.{Idle, TryReadLoad, TryReadCas, TryWriteOr, ContendLoad, ContendCas, RegisterCas, CompletedLoad, Park, WalkTail, WalkNext, WalkPrev, WalkHead, QueueCas, SplitPrev, SplitStore, SplitCas, SplitRestore, TakeCas, WakePrev, WakeStore, ReadUnlockLoad, ReadUnlockCas, Subtract, WriteUnlockCas, ReleaseCas, DowngradeCas, DowngradeSlowCas}
+use Rattle.state.specs.declared.place.Place.the-variants as At
 use Rattle.state.specs.declared.view.Stepped.{Stepped}
 use Rattle.state.specs.declared.view.Stepped.the-variants.{To, Refused as StepRefused}
 use Rattle.lock.specs.Begin.{holdsNothing, mayBegin, isIdle, beginOf}
@@ -66,34 +69,34 @@ row-unless n later false condition rest refusal e p q = rw e p
 -- the access's kind does not depend on the thread, so either test of idleness is the other
 same-idle : (t : ThreadNumber) (p : Place) → isIdle p ≡ idle (accessOf t p .kind)
 unfolding accessOf
-same-idle t Idle = refl
-same-idle t (TryReadLoad _) = refl
-same-idle t (TryReadCas _ _) = refl
-same-idle t (TryWriteOr _) = refl
-same-idle t (ContendLoad _ _) = refl
-same-idle t (ContendCas _ _ _) = refl
-same-idle t (RegisterCas _ _ _) = refl
-same-idle t (CompletedLoad _) = refl
-same-idle t (Park _) = refl
-same-idle t (WalkTail _ _ _) = refl
-same-idle t (WalkNext _ _ _) = refl
-same-idle t (WalkPrev _ _ _ _) = refl
-same-idle t (WalkHead _ _ _) = refl
-same-idle t (QueueCas _ _) = refl
-same-idle t (SplitPrev _ _ _) = refl
-same-idle t (SplitStore _ _ _ _) = refl
-same-idle t (SplitCas _ _ _) = refl
-same-idle t (SplitRestore _ _ _ _) = refl
-same-idle t (TakeCas _ _ _) = refl
-same-idle t (WakePrev _ _) = refl
-same-idle t (WakeStore _ _ _) = refl
-same-idle t ReadUnlockLoad = refl
-same-idle t (ReadUnlockCas _) = refl
-same-idle t (Subtract _ _) = refl
-same-idle t WriteUnlockCas = refl
-same-idle t (ReleaseCas _) = refl
-same-idle t DowngradeCas = refl
-same-idle t (DowngradeSlowCas _) = refl
+same-idle t At.Idle = refl
+same-idle t (At.TryReadLoad _) = refl
+same-idle t (At.TryReadCas _ _) = refl
+same-idle t (At.TryWriteOr _) = refl
+same-idle t (At.ContendLoad _ _) = refl
+same-idle t (At.ContendCas _ _ _) = refl
+same-idle t (At.RegisterCas _ _ _) = refl
+same-idle t (At.CompletedLoad _) = refl
+same-idle t (At.Park _) = refl
+same-idle t (At.WalkTail _ _ _) = refl
+same-idle t (At.WalkNext _ _ _) = refl
+same-idle t (At.WalkPrev _ _ _ _) = refl
+same-idle t (At.WalkHead _ _ _) = refl
+same-idle t (At.QueueCas _ _) = refl
+same-idle t (At.SplitPrev _ _ _) = refl
+same-idle t (At.SplitStore _ _ _ _) = refl
+same-idle t (At.SplitCas _ _ _) = refl
+same-idle t (At.SplitRestore _ _ _ _) = refl
+same-idle t (At.TakeCas _ _ _) = refl
+same-idle t (At.WakePrev _ _) = refl
+same-idle t (At.WakeStore _ _ _) = refl
+same-idle t At.ReadUnlockLoad = refl
+same-idle t (At.ReadUnlockCas _) = refl
+same-idle t (At.Subtract _ _) = refl
+same-idle t At.WriteUnlockCas = refl
+same-idle t (At.ReleaseCas _) = refl
+same-idle t At.DowngradeCas = refl
+same-idle t (At.DowngradeSlowCas _) = refl
 
 -- what is held, as document 01 asks for it and as beginning tests it
 held : (h : Holding)
@@ -159,7 +162,8 @@ stepped-table m t fails =
 
 -- 8 for the count, before the rest
 counted : (m : Machine) (later : ℕ) (rest : Outcome) → numberGiven (rest .reply) ≡ later
-    → numberGiven (pick (goodCount (m .count)) rest (refusedOf m Damaged) .reply) ≡ pick (not (goodCount (m .count))) 8 later
+    → numberGiven (pick (goodCount (m .count)) rest (refusedOf m Damaged) .reply)
+    ≡ pick (not (goodCount (m .count))) 8 later
 counted m later rest p = row-unless 8 later (goodCount (m .count)) _ rest _ refl refl (λ _. p)
 
 -- then 1, 2 and the rows of a begin or of a step
@@ -186,7 +190,8 @@ refusal-table m code t = by-code m code t (code-is code) refl refl refl
 -- an outcome that refuses hands the machine back as it was
 data Settled (m : Machine) : Outcome → Type 0 where
   refuses : (r : Refusal) → Settled m (refusedOf m r)
-  accepts : (after : Machine) (a : Answer) (woken : Owner) → Settled m (record { machine = after; reply = Accepted a woken })
+  accepts : (after : Machine) (a : Answer) (woken : Owner)
+      → Settled m (record { machine = after; reply = Accepted a woken })
 
 settled-both : (m : Machine) (b : Bool) (x y : Outcome) → Settled m x → Settled m y → Settled m (pick b x y)
 settled-both m true x y p q = p
@@ -196,11 +201,13 @@ landed-settled : (m : Machine) (i k : ℕ) (s : Stepped) → Settled m (landedOf
 landed-settled m i k (To c) = accepts _ _ _
 landed-settled m i k (StepRefused r) = refuses r
 
-touching-settled : (m : Machine) (t : ThreadNumber) (fails : Bool) (p : Place) (s : Slot) → Settled m (touchingBy m t fails p s)
+touching-settled : (m : Machine) (t : ThreadNumber) (fails : Bool) (p : Place) (s : Slot)
+    → Settled m (touchingBy m t fails p s)
 touching-settled m t fails p Outside = refuses Damaged
 touching-settled m t fails p (At k) = search landed-settled
 
-step-settled : (m : Machine) (t : ThreadNumber) (fails : Bool) (p : Place) (v : Verdict) → Settled m (stepBy m t fails p v)
+step-settled : (m : Machine) (t : ThreadNumber) (fails : Bool) (p : Place) (v : Verdict)
+    → Settled m (stepBy m t fails p v)
 step-settled m t fails p (Denied r) = refuses r
 step-settled m t fails p Fine = search touching-settled
 
@@ -235,7 +242,8 @@ named n =
     pick (eqb n 1) UnknownCode
     (pick (eqb n 2) NoThread
     (pick (eqb n 3) InsideCall
-    (pick (eqb n 4) WrongHolding (pick (eqb n 5) NotInCall (pick (eqb n 6) NoToken (pick (eqb n 7) CannotFail Damaged))))))
+    (pick (eqb n 4) WrongHolding
+    (pick (eqb n 5) NotInCall (pick (eqb n 6) NoToken (pick (eqb n 7) CannotFail Damaged))))))
 
 number-named : (r : Refusal) → (named (refusalNumber r) ≡ r) × (0 < refusalNumber r)
 unfolding named

@@ -1,4 +1,5 @@
--- The refusal table at a step: which places' rules refuse, and that 5, 6, 7 and 8 are given as the table says. Assumes nothing.
+-- The refusal table at a step: which places' rules refuse, and that 5, 6, 7 and 8 are given as the table says.
+-- Assumes nothing.
 use Prim.Native.Nat.{ℕ, _+_, _-_, _<_}
 use mathlib.Core.Bool.{Bool, true, false, not}
 use mathlib.Core.List.{[], _∷_}
@@ -23,15 +24,17 @@ use Rattle.state.specs.Access.{accessOf, touchedAt, touchedOf}
 use Rattle.state.specs.Machine.{threadAt, nodeAt}
 use Rattle.state.specs.View.{agreesOf}
 use Rattle.state.specs.declared.access.Kind.{Kind}
-use Rattle.state.specs.declared.access.Kind.the-variants.{Nothing, Load, Store, WeakCompare, StrongCompare, FetchOr, Subtract as Subtracting, Complete, Park as Parking}
+use Rattle.state.specs.declared.access.Kind.the-variants.{Nothing, Load, Store, WeakCompare, StrongCompare, FetchOr}
+use Rattle.state.specs.declared.access.Kind.the-variants.{Subtract as Subtracting, Complete, Park as Parking}
 use Rattle.state.specs.declared.access.Location.{Location}
-use Rattle.state.specs.declared.access.Location.the-variants.{Nowhere, Word as TheWord, Next, Prev, Tail, Completed, Token}
+use Rattle.state.specs.declared.access.Location.the-variants.{Nowhere, Word as TheWord, Next}
+use Rattle.state.specs.declared.access.Location.the-variants.{Prev, Tail, Completed, Token}
 use Rattle.state.specs.declared.answer.Refusal.the-variants.{Damaged}
 use Rattle.state.specs.declared.answer.Verdict.the-variants.{Fine}
 use Rattle.state.specs.declared.machine.Machine.{Machine}
 use Rattle.state.specs.declared.node.Node.{Node}
 use Rattle.state.specs.declared.place.Place.{Place}
-use Rattle.state.specs.declared.place.Place.the-variants.{Idle, TryReadLoad, TryReadCas, TryWriteOr, ContendLoad, ContendCas, RegisterCas, CompletedLoad, Park, WalkTail, WalkNext, WalkPrev, WalkHead, QueueCas, SplitPrev, SplitStore, SplitCas, SplitRestore, TakeCas, WakePrev, WakeStore, ReadUnlockLoad, ReadUnlockCas, Subtract, WriteUnlockCas, ReleaseCas, DowngradeCas, DowngradeSlowCas}
+use Rattle.state.specs.declared.place.Place.the-variants as At
 use Rattle.state.specs.declared.place.Walk.{Walk}
 use Rattle.state.specs.declared.place.Walk.the-variants.{Queue, ReadUnlock, Downgrade}
 use Rattle.state.specs.declared.place.Who.{Who}
@@ -49,7 +52,9 @@ use Rattle.release.specs.ReadUnlock.{readUnlockBy, readUnlockCasBy, readUnlockJ
 use Rattle.lock.specs.Advance.{advanceOf}
 use Rattle.lock.specs.Landed.{landedOf}
 use Rattle.lock.specs.Step.{haltedOf, markedOf, markBy, markOf, viewAt, touchingBy, stepBy, stepAt}
-use Rattle.promises.specs.Refusals.{and, or, numberGiven, row, firstOf, idle, asleep, mayFail, outside, anyOutside, accessed, markRead, thenTouched, belowOne, subtractsBelow, damaged, stepRows}
+use Rattle.promises.specs.Refusals.{and, or, numberGiven, row, firstOf, idle, asleep}
+use Rattle.promises.specs.Refusals.{mayFail, outside, anyOutside, accessed, markRead}
+use Rattle.promises.specs.Refusals.{thenTouched, belowOne, subtractsBelow, damaged, stepRows}
 
 -- ── the rules ──
 
@@ -85,7 +90,8 @@ contend-goes : (v : View) (writer : Bool) (reloads : ℕ) (seen : Word) (r : Per
 contend-goes v writer reloads seen (PermittedTo to) = goes _
 contend-goes v writer reloads seen NotPermitted = search (goes, gives-both)
 
-contend-cas-goes : (v : View) (writer : Bool) (reloads : ℕ) (r : Permitted) → Gives (contendCasBy v writer reloads r) false
+contend-cas-goes : (v : View) (writer : Bool) (reloads : ℕ) (r : Permitted)
+    → Gives (contendCasBy v writer reloads r) false
 contend-cas-goes v writer reloads (PermittedTo to) = goes _
 contend-cas-goes v writer reloads NotPermitted = contend-goes v writer reloads (v .word) (permittedOf writer (v .word))
 
@@ -101,7 +107,8 @@ marked-gives m v n who seen tail = by-slot (ltb (tail .0) 1) (ltb (m .count) (ta
     by-mark false = goes _
 
     by-slot : (low high : Bool)
-        → Gives (markedBy v n who seen tail (markBy m (pick low Outside (pick high Outside (At (tail .0 - 1)))))) (or low high)
+        → Gives (markedBy v n who seen tail (markBy m (pick low Outside (pick high Outside (At (tail .0 - 1))))))
+        (or low high)
     by-slot true high = refuses
     by-slot false true = refuses
     by-slot false false = by-mark (nodeAt m (tail .0 - 1) .writer)
@@ -162,40 +169,42 @@ unlock-cas-gives v seen =
     by-rule Contended e = judged
     by-rule UnlockRefused e = judged
 
--- past refusals 5, 6 and 7, a rule refuses exactly where the local code would touch a node outside, or subtract too much
+-- past refusals 5, 6 and 7, a rule refuses exactly where the local code would touch a node
+-- outside, or subtract too much
 rule-gives : (m : Machine) (t : ThreadNumber) (fails : Bool) (p : Place)
     → idle (accessOf t p .kind) ≡ false
     → Gives (advanceOf (viewAt m t (touchedOf (accessOf t p) t .0 - 1) fails p) p)
     (or (anyOutside (m .count) (thenTouched p)) (subtractsBelow m p))
 unfolding accessOf advanceOf markedOf thenTouched subtractsBelow
-rule-gives m t fails Idle h = absurd (subst T h tt)
-rule-gives m t fails (TryReadLoad _) h = search going
-rule-gives m t fails (TryReadCas _ _) h = search going
-rule-gives m t fails (TryWriteOr _) h = search going
-rule-gives m t fails (ContendLoad _ _) h = search going
-rule-gives m t fails (ContendCas _ _ _) h = search going
-rule-gives m t fails (RegisterCas _ _ _) h = search going
-rule-gives m t fails (CompletedLoad _) h = search going
-rule-gives m t fails (Park _) h = search going
-rule-gives m t fails (WalkTail _ _ _) h = search going
-rule-gives m t fails (WalkNext _ _ _) h = search going
-rule-gives m t fails (WalkPrev _ _ _ _) h = search going
-rule-gives m t fails (WalkHead walk seen tail) h = walked-gives m _ _ walk seen tail refl
-rule-gives m t fails (QueueCas _ _) h = search going
-rule-gives m t fails (SplitPrev _ _ _) h = search going
-rule-gives m t fails (SplitStore _ _ _ _) h = search going
-rule-gives m t fails (SplitCas _ _ _) h = search going
-rule-gives m t fails (SplitRestore _ _ _ _) h = search going
-rule-gives m t fails (TakeCas _ _ _) h = search going
-rule-gives m t fails (WakePrev _ _) h = search going
-rule-gives m t fails (WakeStore _ _ _) h = search going
-rule-gives m t fails ReadUnlockLoad h = unlock-gives _ _ (m .word)
-rule-gives m t fails (ReadUnlockCas seen) h = unlock-cas-gives (viewAt m t (nodeOf t .0 - 1) fails (ReadUnlockCas seen)) seen
-rule-gives m t fails (Subtract _ tail) h = gives-test (ltb (nodeAt m (tail .0 - 1) .next .0) SINGLE) _
-rule-gives m t fails WriteUnlockCas h = search going
-rule-gives m t fails (ReleaseCas _) h = search going
-rule-gives m t fails DowngradeCas h = search going
-rule-gives m t fails (DowngradeSlowCas _) h = search going
+rule-gives m t fails At.Idle h = absurd (subst T h tt)
+rule-gives m t fails (At.TryReadLoad _) h = search going
+rule-gives m t fails (At.TryReadCas _ _) h = search going
+rule-gives m t fails (At.TryWriteOr _) h = search going
+rule-gives m t fails (At.ContendLoad _ _) h = search going
+rule-gives m t fails (At.ContendCas _ _ _) h = search going
+rule-gives m t fails (At.RegisterCas _ _ _) h = search going
+rule-gives m t fails (At.CompletedLoad _) h = search going
+rule-gives m t fails (At.Park _) h = search going
+rule-gives m t fails (At.WalkTail _ _ _) h = search going
+rule-gives m t fails (At.WalkNext _ _ _) h = search going
+rule-gives m t fails (At.WalkPrev _ _ _ _) h = search going
+rule-gives m t fails (At.WalkHead walk seen tail) h = walked-gives m _ _ walk seen tail refl
+rule-gives m t fails (At.QueueCas _ _) h = search going
+rule-gives m t fails (At.SplitPrev _ _ _) h = search going
+rule-gives m t fails (At.SplitStore _ _ _ _) h = search going
+rule-gives m t fails (At.SplitCas _ _ _) h = search going
+rule-gives m t fails (At.SplitRestore _ _ _ _) h = search going
+rule-gives m t fails (At.TakeCas _ _ _) h = search going
+rule-gives m t fails (At.WakePrev _ _) h = search going
+rule-gives m t fails (At.WakeStore _ _ _) h = search going
+rule-gives m t fails At.ReadUnlockLoad h = unlock-gives _ _ (m .word)
+rule-gives m t fails (At.ReadUnlockCas seen) h =
+    unlock-cas-gives (viewAt m t (nodeOf t .0 - 1) fails (At.ReadUnlockCas seen)) seen
+rule-gives m t fails (At.Subtract _ tail) h = gives-test (ltb (nodeAt m (tail .0 - 1) .next .0) SINGLE) _
+rule-gives m t fails At.WriteUnlockCas h = search going
+rule-gives m t fails (At.ReleaseCas _) h = search going
+rule-gives m t fails At.DowngradeCas h = search going
+rule-gives m t fails (At.DowngradeSlowCas _) h = search going
 
 -- ── the step ──
 
@@ -255,7 +264,11 @@ halted-number : (m : Machine) (t : ThreadNumber) (p : Place) (k : Kind) (token f
     → (idle k ≡ false → numberGiven (stepBy m t fails p Fine .reply) ≡ eightIf damage)
     → numberGiven (stepBy m t fails p (haltedOf k token fails) .reply)
     ≡ firstOf
-    (row 5 (idle k) ∷ row 6 (and (not fails) (and (asleep k) (not token))) ∷ row 7 (and fails (not (mayFail k))) ∷ row 8 damage ∷ [])
+    (row 5 (idle k)
+    ∷ row 6 (and (not fails) (and (asleep k) (not token)))
+    ∷ row 7 (and fails (not (mayFail k)))
+    ∷ row 8 damage
+    ∷ [])
 halted-number m t p Nothing token fails damage fine = refl
 halted-number m t p Parking token true damage fine = fine refl
 halted-number m t p Parking true false damage fine = fine refl
@@ -281,4 +294,5 @@ pub step-table : (m : Machine) (t : ThreadNumber) → t .0 < m .count → (fails
 step-table m t h true p =
     halted-number m t p (accessOf t p .kind) (threadAt m (t .0) .token) true (damaged m t p) (fine-number m t h true p)
 step-table m t h false p =
-    halted-number m t p (accessOf t p .kind) (threadAt m (t .0) .token) false (damaged m t p) (fine-number m t h false p)
+    halted-number m t p (accessOf t p .kind) (threadAt m (t .0) .token) false (damaged m t p)
+    (fine-number m t h false p)

@@ -1,4 +1,5 @@
--- Document 01's refusal table: each number with its condition, in the order of checking. Assumes nothing.
+-- Document 01's refusal table: each number with its condition, in the order of checking.
+-- Assumes nothing.
 use Prim.Native.Nat.{ℕ, _+_, _-_}
 use mathlib.Core.Bool.{Bool, true, false, not}
 use mathlib.Core.List.{List, [], _∷_}
@@ -13,9 +14,11 @@ use Rattle.state.specs.Answer.{refusalNumber}
 use Rattle.state.specs.Holding.{readsOf, writesOf}
 use Rattle.state.specs.Machine.{goodCount, threadAt, nodeAt}
 use Rattle.state.specs.declared.access.Kind.{Kind}
-use Rattle.state.specs.declared.access.Kind.the-variants.{Nothing, Load, Store, WeakCompare, StrongCompare, FetchOr, Subtract as Subtracting, Complete, Park as Parking}
+use Rattle.state.specs.declared.access.Kind.the-variants.{Nothing, Load, Store, WeakCompare, StrongCompare, FetchOr}
+use Rattle.state.specs.declared.access.Kind.the-variants.{Subtract as Subtracting, Complete, Park as Parking}
 use Rattle.state.specs.declared.access.Location.{Location}
-use Rattle.state.specs.declared.access.Location.the-variants.{Nowhere, Word as TheWord, Next, Prev, Tail, Completed, Token}
+use Rattle.state.specs.declared.access.Location.the-variants.{Nowhere, Word as TheWord, Next}
+use Rattle.state.specs.declared.access.Location.the-variants.{Prev, Tail, Completed, Token}
 use Rattle.state.specs.declared.answer.Reply.{Reply}
 use Rattle.state.specs.declared.answer.Reply.the-variants.{Accepted, Refused}
 use Rattle.state.specs.declared.holding.Holding.{Holding}
@@ -23,7 +26,7 @@ use Rattle.state.specs.declared.machine.Machine.{Machine}
 use Rattle.state.specs.declared.place.Walk.{Walk}
 use Rattle.state.specs.declared.place.Walk.the-variants.{Queue, ReadUnlock, Downgrade}
 use Rattle.state.specs.declared.place.Place.{Place}
-use Rattle.state.specs.declared.place.Place.the-variants.{Idle, TryReadLoad, TryReadCas, TryWriteOr, ContendLoad, ContendCas, RegisterCas, CompletedLoad, Park, WalkTail, WalkNext, WalkPrev, WalkHead, QueueCas, SplitPrev, SplitStore, SplitCas, SplitRestore, TakeCas, WakePrev, WakeStore, ReadUnlockLoad, ReadUnlockCas, Subtract, WriteUnlockCas, ReleaseCas, DowngradeCas, DowngradeSlowCas}
+use Rattle.state.specs.declared.place.Place.the-variants as At
 
 abbrev pub and : Bool → Bool → Bool
 and a b = pick a b false
@@ -120,34 +123,34 @@ markRead Downgrade seen tail = []
 
 -- the node that local code after the access touches
 unfoldable pub thenTouched : Place → List NodeNumber
-thenTouched Idle = []
-thenTouched (TryReadLoad _) = []
-thenTouched (TryReadCas _ _) = []
-thenTouched (TryWriteOr _) = []
-thenTouched (ContendLoad _ _) = []
-thenTouched (ContendCas _ _ _) = []
-thenTouched (RegisterCas _ _ _) = []
-thenTouched (CompletedLoad _) = []
-thenTouched (Park _) = []
-thenTouched (WalkTail _ _ _) = []
-thenTouched (WalkNext _ _ _) = []
-thenTouched (WalkPrev _ _ _ _) = []
-thenTouched (WalkHead walk seen tail) = markRead walk seen tail
-thenTouched (QueueCas _ _) = []
-thenTouched (SplitPrev _ _ _) = []
-thenTouched (SplitStore _ _ _ _) = []
-thenTouched (SplitCas _ _ _) = []
-thenTouched (SplitRestore _ _ _ _) = []
-thenTouched (TakeCas _ _ _) = []
-thenTouched (WakePrev _ _) = []
-thenTouched (WakeStore _ _ _) = []
-thenTouched ReadUnlockLoad = []
-thenTouched (ReadUnlockCas _) = []
-thenTouched (Subtract _ _) = []
-thenTouched WriteUnlockCas = []
-thenTouched (ReleaseCas _) = []
-thenTouched DowngradeCas = []
-thenTouched (DowngradeSlowCas _) = []
+thenTouched At.Idle = []
+thenTouched (At.TryReadLoad _) = []
+thenTouched (At.TryReadCas _ _) = []
+thenTouched (At.TryWriteOr _) = []
+thenTouched (At.ContendLoad _ _) = []
+thenTouched (At.ContendCas _ _ _) = []
+thenTouched (At.RegisterCas _ _ _) = []
+thenTouched (At.CompletedLoad _) = []
+thenTouched (At.Park _) = []
+thenTouched (At.WalkTail _ _ _) = []
+thenTouched (At.WalkNext _ _ _) = []
+thenTouched (At.WalkPrev _ _ _ _) = []
+thenTouched (At.WalkHead walk seen tail) = markRead walk seen tail
+thenTouched (At.QueueCas _ _) = []
+thenTouched (At.SplitPrev _ _ _) = []
+thenTouched (At.SplitStore _ _ _ _) = []
+thenTouched (At.SplitCas _ _ _) = []
+thenTouched (At.SplitRestore _ _ _ _) = []
+thenTouched (At.TakeCas _ _ _) = []
+thenTouched (At.WakePrev _ _) = []
+thenTouched (At.WakeStore _ _ _) = []
+thenTouched At.ReadUnlockLoad = []
+thenTouched (At.ReadUnlockCas _) = []
+thenTouched (At.Subtract _ _) = []
+thenTouched At.WriteUnlockCas = []
+thenTouched (At.ReleaseCas _) = []
+thenTouched At.DowngradeCas = []
+thenTouched (At.DowngradeSlowCas _) = []
 
 -- read_unlock would subtract 17 from the word
 abbrev pub belowOne : Word → Bool
@@ -155,34 +158,34 @@ belowOne w = and (not (queued w)) (ltb (w .0) (SINGLE + LOCKED))
 
 -- subtract 17 from a word below 17 or 16 from a next below 16
 unfoldable pub subtractsBelow : Machine → Place → Bool
-subtractsBelow m Idle = false
-subtractsBelow m (TryReadLoad _) = false
-subtractsBelow m (TryReadCas _ _) = false
-subtractsBelow m (TryWriteOr _) = false
-subtractsBelow m (ContendLoad _ _) = false
-subtractsBelow m (ContendCas _ _ _) = false
-subtractsBelow m (RegisterCas _ _ _) = false
-subtractsBelow m (CompletedLoad _) = false
-subtractsBelow m (Park _) = false
-subtractsBelow m (WalkTail _ _ _) = false
-subtractsBelow m (WalkNext _ _ _) = false
-subtractsBelow m (WalkPrev _ _ _ _) = false
-subtractsBelow m (WalkHead _ _ _) = false
-subtractsBelow m (QueueCas _ _) = false
-subtractsBelow m (SplitPrev _ _ _) = false
-subtractsBelow m (SplitStore _ _ _ _) = false
-subtractsBelow m (SplitCas _ _ _) = false
-subtractsBelow m (SplitRestore _ _ _ _) = false
-subtractsBelow m (TakeCas _ _ _) = false
-subtractsBelow m (WakePrev _ _) = false
-subtractsBelow m (WakeStore _ _ _) = false
-subtractsBelow m ReadUnlockLoad = belowOne (m .word)
-subtractsBelow m (ReadUnlockCas _) = belowOne (m .word)
-subtractsBelow m (Subtract _ tail) = ltb (nodeAt m (tail .0 - 1) .next .0) SINGLE
-subtractsBelow m WriteUnlockCas = false
-subtractsBelow m (ReleaseCas _) = false
-subtractsBelow m DowngradeCas = false
-subtractsBelow m (DowngradeSlowCas _) = false
+subtractsBelow m At.Idle = false
+subtractsBelow m (At.TryReadLoad _) = false
+subtractsBelow m (At.TryReadCas _ _) = false
+subtractsBelow m (At.TryWriteOr _) = false
+subtractsBelow m (At.ContendLoad _ _) = false
+subtractsBelow m (At.ContendCas _ _ _) = false
+subtractsBelow m (At.RegisterCas _ _ _) = false
+subtractsBelow m (At.CompletedLoad _) = false
+subtractsBelow m (At.Park _) = false
+subtractsBelow m (At.WalkTail _ _ _) = false
+subtractsBelow m (At.WalkNext _ _ _) = false
+subtractsBelow m (At.WalkPrev _ _ _ _) = false
+subtractsBelow m (At.WalkHead _ _ _) = false
+subtractsBelow m (At.QueueCas _ _) = false
+subtractsBelow m (At.SplitPrev _ _ _) = false
+subtractsBelow m (At.SplitStore _ _ _ _) = false
+subtractsBelow m (At.SplitCas _ _ _) = false
+subtractsBelow m (At.SplitRestore _ _ _ _) = false
+subtractsBelow m (At.TakeCas _ _ _) = false
+subtractsBelow m (At.WakePrev _ _) = false
+subtractsBelow m (At.WakeStore _ _ _) = false
+subtractsBelow m At.ReadUnlockLoad = belowOne (m .word)
+subtractsBelow m (At.ReadUnlockCas _) = belowOne (m .word)
+subtractsBelow m (At.Subtract _ tail) = ltb (nodeAt m (tail .0 - 1) .next .0) SINGLE
+subtractsBelow m At.WriteUnlockCas = false
+subtractsBelow m (At.ReleaseCas _) = false
+subtractsBelow m At.DowngradeCas = false
+subtractsBelow m (At.DowngradeSlowCas _) = false
 
 -- the step, local code included, would touch a node outside 1..count, or subtract too much
 abbrev pub damaged : Machine → ThreadNumber → Place → Bool

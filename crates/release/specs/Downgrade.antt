@@ -1,4 +1,6 @@
--- downgrade: strong compare 1 to 17. Else with QUEUE_LOCKED set, weak compare setting DOWNGRADED; otherwise weak compare to 17, then find tail and complete all of the old queue. Assumes nothing.
+-- downgrade: strong compare 1 to 17. Else with QUEUE_LOCKED set, weak compare setting DOWNGRADED; otherwise weak
+-- compare to 17, then find tail and complete all of the old queue.
+-- Assumes nothing.
 use Prim.Native.Nat.{_+_}
 use lib.Dec.{eqb}
 use Rattle.word.specs.Base.{pick}

@@ -1,4 +1,5 @@
--- read_unlock: by the word, or find tail and subtract 16 from its next; a result of 0 goes on to release. Assumes nothing.
+-- read_unlock: by the word, or find tail and subtract 16 from its next; a result of 0 goes on to release.
+-- Assumes nothing.
 use Prim.Native.Nat.{ℕ, _-_}
 use lib.Dec.{ltb, eqb}
 use Rattle.word.specs.Base.{pick}

@@ -1,4 +1,6 @@
--- Release: with QUEUE_LOCKED set, weak compare clearing LOCKED; else weak compare clearing LOCKED and setting QUEUE_LOCKED, then unlock queue. Assumes nothing.
+-- Release: with QUEUE_LOCKED set, weak compare clearing LOCKED; else weak compare clearing LOCKED and setting
+-- QUEUE_LOCKED, then unlock queue.
+-- Assumes nothing.
 use Rattle.word.specs.Base.{pick}
 use Rattle.word.specs.Flags.{queueLocked, clearLocked, setQueueLocked}
 use Rattle.word.specs.declared.flags.Word.{Word}

@@ -1,4 +1,5 @@
--- write_unlock: strong compare 1 to 0, else release. Assumes nothing.
+-- write_unlock: strong compare 1 to 0, else release.
+-- Assumes nothing.
 use lib.Dec.{eqb}
 use Rattle.word.specs.Base.{pick}
 use Rattle.word.specs.Flags.{word, LOCKED}

@@ -1,4 +1,5 @@
-// downgrade and downgrade_slow: the writer becomes a reader, and the waiters are woken by it or by the queue-lock owner.
+// downgrade and downgrade_slow: the writer becomes a reader,
+// and the waiters are woken by it or by the queue-lock owner.
 ghost use mathlib.Core.Path.{_≡_};
 ghost use Rattle.release.specs.Downgrade.{downgradeCasOf, downgradedWord, afterDowngrade, downgradeSlowCasOf};
 use state::Answer;

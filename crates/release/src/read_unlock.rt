@@ -1,6 +1,7 @@
 // read_unlock and read_unlock_contended: the count goes down in the word, or in the oldest waiter's next.
 ghost use mathlib.Core.Path.{_≡_};
-ghost use Rattle.release.specs.ReadUnlock.{readUnlockJudged, readUnlockLoadOf, readUnlockCasOf, afterSubtract, subtractOf};
+ghost use Rattle.release.specs.ReadUnlock.{readUnlockJudged, readUnlockLoadOf};
+ghost use Rattle.release.specs.ReadUnlock.{readUnlockCasOf, afterSubtract, subtractOf};
 use state::Answer;
 use state::Next;
 use state::Place;

@@ -1,4 +1,5 @@
--- The machine's lists are the tickets' intervals: the queue's, and each thread's. So none is ever lost. Assumes nothing.
+-- The machine's lists are the tickets' intervals: the queue's, and each thread's. So none is ever lost.
+-- Assumes nothing.
 use Prim.Native.Nat.{ℕ, zero, suc, _-_, _≤_, _<_}
 use mathlib.Core.Bool.{Bool, true, false}
 use mathlib.Core.List.{[], _∷_}
@@ -17,7 +18,7 @@ use Rattle.state.specs.Machine.{goodCount, threadAt}
 use Rattle.state.specs.declared.machine.Machine.{Machine}
 use Rattle.state.specs.declared.place.Walk.the-variants.{Queue as ForQueue, ReadUnlock, Downgrade}
 use Rattle.state.specs.declared.place.Place.{Place}
-use Rattle.state.specs.declared.place.Place.the-variants.{Idle, TryReadLoad, TryReadCas, TryWriteOr, ContendLoad, ContendCas, RegisterCas, CompletedLoad, Park, WalkTail, WalkNext, WalkPrev, WalkHead, QueueCas, SplitPrev, SplitStore, SplitCas, SplitRestore, TakeCas, WakePrev, WakeStore, ReadUnlockLoad, ReadUnlockCas, Subtract, WriteUnlockCas, ReleaseCas, DowngradeCas, DowngradeSlowCas}
+use Rattle.state.specs.declared.place.Place.the-variants as At
 use Rattle.listing.specs.Listing.{Listed, listed, prepend, followedOf, listedOf}
 use Rattle.standing.specs.Part.{partOf}
 use Rattle.queue.specs.Queue.{Interval, Live, Links, Queue, Walker as Walks, Full}
@@ -57,10 +58,13 @@ module _ (m : Machine) (ok : Ok m) where
   pub listing-is : listedOf m ≡ listed (down (g .log) (g .lo) (g .hi - g .lo))
   listing-is = sym (pick-yes (goodCount (m .count)) _ _ _ (ok .good) refl) ∙ by (queued (m .word)) refl
     where
-      by : (q : Bool) → queued (m .word) ≡ q → pick q (followedOf m (toNode (m .word))) (listed []) ≡ listed (down (g .log) (g .lo) (g .hi - g .lo))
+      by : (q : Bool)
+          → queued (m .word) ≡ q
+          → pick q (followedOf m (toNode (m .word))) (listed []) ≡ listed (down (g .log) (g .lo) (g .hi - g .lo))
       by true e =
           let v : Newest g (m .word) = ok .inv .newest e in
-          lists-all m (ticketsOf g) live range (ok .inv .queue .queue) (v .ticket) (v .last) (v .some) (toNode (m .word)) (sym (v .node))
+          lists-all m (ticketsOf g) live range (ok .inv .queue .queue) (v .ticket) (v .last) (v .some)
+          (toNode (m .word)) (sym (v .node))
       by false e = let z : g .hi - g .lo ≡ 0 = omega (arith, ok .inv .nobody e) in rw z
 
   pub queue-is : queueIn m ≡ listed (up (g .log) (g .lo) (g .hi - g .lo))
@@ -92,7 +96,9 @@ module _ (m : Machine) (ok : Ok m) where
     -- a downgrade's is over all that it took
     is-alone : (seen : Word) (h : ℕ) → part .lo ≤ h → suc h ≡ part .hi → g .log h ≡ toNode seen .0
         → Queue part links → Is (turned (followedOf m (toNode seen)))
-    is-alone seen h low last head q = ap turned (lists-all m part mine-live mine-range q h last low (toNode seen) (sym head)) ∙ ap listed (reverse-down (g .log) (part .lo) (part .hi - part .lo))
+    is-alone seen h low last head q =
+        ap turned (lists-all m part mine-live mine-range q h last low (toNode seen) (sym head))
+        ∙ ap listed (reverse-down (g .log) (part .lo) (part .hi - part .lo))
 
     is-one : (tail : NodeNumber) (hd : ℕ) → AsideAt (ticketsOf g) part links hd (tail .0) → Is (listed (tail ∷ []))
     is-one tail hd w =
@@ -101,7 +107,8 @@ module _ (m : Machine) (ok : Ok m) where
 
     is-waking : (current : NodeNumber) → WakeAt part links (current .0) → Is (backFrom (m .count) m current)
     is-waking current w =
-        goes-back m part mine-live mine-range (part .lo) (omega arith) (w .mine) (part .hi - part .lo) (m .count) (part .lo) current
+        goes-back m part mine-live mine-range (part .lo) (omega arith) (w .mine) (part .hi - part .lo) (m .count)
+        (part .lo) current
         (few-tickets m part mine-live mine-range (omega (arith, w .some))) (omega arith) (omega (arith, w .some))
         (begins (part .hi - part .lo) (omega (arith, w .some)))
       where
@@ -109,14 +116,23 @@ module _ (m : Machine) (ok : Ok m) where
         begins zero l = absurd (omega arith)
         begins (suc k) l = sym (w .isc)
 
-    is-storing : (current prev : NodeNumber) → StoreAt part links (current .0) (prev .0) → Is (prepend current (backFrom (m .count) m prev))
+    is-storing : (current prev : NodeNumber)
+        → StoreAt part links (current .0) (prev .0)
+        → Is (prepend current (backFrom (m .count) m prev))
     is-storing current prev w =
         let size : part .hi - part .lo ≡ suc (part .hi - suc (part .lo)) = omega (arith, w .some) in
-        ap (prepend current) (goes-back m part mine-live mine-range (suc (part .lo)) (omega arith) (w .mine) (part .hi - suc (part .lo)) (m .count) (suc (part .lo)) prev (omega (arith, few-tickets m part mine-live mine-range (omega (arith, w .some)))) (omega arith) (omega (arith, w .some)) (begins (part .hi - suc (part .lo)) refl (w .rest)))
-        ∙ rw size (ap (λ x. listed (x ∷ up (g .log) (suc (part .lo)) (part .hi - suc (part .lo)))) (node-is current (g .log (part .lo)) (sym (w .isc))))
+        ap (prepend current)
+        (goes-back m part mine-live mine-range (suc (part .lo)) (omega arith) (w .mine) (part .hi - suc (part .lo))
+        (m .count) (suc (part .lo)) prev
+        (omega (arith, few-tickets m part mine-live mine-range (omega (arith, w .some)))) (omega arith)
+        (omega (arith, w .some)) (begins (part .hi - suc (part .lo)) refl (w .rest)))
+        ∙ rw size
+        (ap (λ x. listed (x ∷ up (g .log) (suc (part .lo)) (part .hi - suc (part .lo))))
+        (node-is current (g .log (part .lo)) (sym (w .isc))))
       where
         begins : (k : ℕ) → part .hi - suc (part .lo) ≡ k
-            → ((suc (part .lo) ≡ part .hi) × (prev .0 ≡ 0)) ⊎ ((suc (part .lo) < part .hi) × (g .log (suc (part .lo)) ≡ prev .0))
+            → ((suc (part .lo) ≡ part .hi) × (prev .0 ≡ 0))
+            ⊎ ((suc (part .lo) < part .hi) × (g .log (suc (part .lo)) ≡ prev .0))
             → Begins m part mine-live mine-range k (suc (part .lo)) prev
         begins zero e (inl z) = z .1
         begins zero e (inr z) = absurd (omega arith)
@@ -124,42 +140,49 @@ module _ (m : Machine) (ok : Ok m) where
         begins (suc k) e (inr z) = sym (z .1)
 
     held-at : (p : Place) → Know (ticketsOf g) part links t (about p .role) → Is (heldBy m (partOf p))
-    held-at Idle w = is-none w
-    held-at (TryReadLoad _) w = is-none w
-    held-at (TryReadCas _ _) w = is-none w
-    held-at (TryWriteOr _) w = is-none w
-    held-at (ContendLoad _ _) w = is-none w
-    held-at (ContendCas _ _ _) w = is-none w
-    held-at (RegisterCas _ _ _) w = is-none (w .empty)
-    held-at (CompletedLoad _) w = is-none w
-    held-at (Park _) w = is-none w
-    held-at (WalkTail (ForQueue _) seen _) w = is-looking (handsOff seen) (w .ground)
-    held-at (WalkTail ReadUnlock seen _) w = is-none (w .ground)
-    held-at (WalkTail Downgrade seen _) w = let y : Walks part links (w .h) (w .c) = w .way in is-alone seen (w .h) (omega arith) (w .over) (w .ish) (w .ground)
-    held-at (WalkNext (ForQueue _) seen _) w = is-looking (handsOff seen) (w .ground)
-    held-at (WalkNext ReadUnlock seen _) w = is-none (w .ground)
-    held-at (WalkNext Downgrade seen _) w = let y : Walks part links (w .h) (suc (w .d)) = w .way in is-alone seen (w .h) (omega arith) (w .over) (w .ish) (w .ground)
-    held-at (WalkPrev (ForQueue _) seen _ _) w = is-looking (handsOff seen) (w .past .ground)
-    held-at (WalkPrev ReadUnlock seen _ _) w = is-none (w .past .ground)
-    held-at (WalkPrev Downgrade seen _ _) w = let y : Walks part links (w .past .h) (suc (w .past .d)) = w .past .way in is-alone seen (w .past .h) (omega arith) (w .past .over) (w .past .ish) (w .past .ground)
-    held-at (WalkHead (ForQueue _) seen _) w = is-looking (handsOff seen) (w .ground)
-    held-at (WalkHead ReadUnlock seen _) w = is-none (w .ground)
-    held-at (WalkHead Downgrade seen _) w = let y : Full part links (w .h) = w .way in is-alone seen (w .h) (omega arith) (w .over) (w .ish) (w .ground)
-    held-at (QueueCas _ _) w = is-none w
-    held-at (SplitPrev _ _ _) w = is-none (w .ground)
-    held-at (SplitStore _ _ _ _) w = is-none (w .it .ground)
-    held-at (SplitCas _ _ tail) w = is-one tail _ w
-    held-at (SplitRestore _ _ tail _) w = is-one tail _ (w .it)
-    held-at (TakeCas _ _ _) w = is-none (w .ground)
-    held-at (WakePrev _ current) w = is-waking current w
-    held-at (WakeStore _ current prev) w = is-storing current prev w
-    held-at ReadUnlockLoad w = is-none w
-    held-at (ReadUnlockCas _) w = is-none w
-    held-at (Subtract _ _) w = is-none (w .ground)
-    held-at WriteUnlockCas w = is-none w
-    held-at (ReleaseCas _) w = is-none w
-    held-at DowngradeCas w = is-none w
-    held-at (DowngradeSlowCas _) w = is-none w
+    held-at At.Idle w = is-none w
+    held-at (At.TryReadLoad _) w = is-none w
+    held-at (At.TryReadCas _ _) w = is-none w
+    held-at (At.TryWriteOr _) w = is-none w
+    held-at (At.ContendLoad _ _) w = is-none w
+    held-at (At.ContendCas _ _ _) w = is-none w
+    held-at (At.RegisterCas _ _ _) w = is-none (w .empty)
+    held-at (At.CompletedLoad _) w = is-none w
+    held-at (At.Park _) w = is-none w
+    held-at (At.WalkTail (ForQueue _) seen _) w = is-looking (handsOff seen) (w .ground)
+    held-at (At.WalkTail ReadUnlock seen _) w = is-none (w .ground)
+    held-at (At.WalkTail Downgrade seen _) w =
+        let y : Walks part links (w .h) (w .c) = w .way in
+        is-alone seen (w .h) (omega arith) (w .over) (w .ish) (w .ground)
+    held-at (At.WalkNext (ForQueue _) seen _) w = is-looking (handsOff seen) (w .ground)
+    held-at (At.WalkNext ReadUnlock seen _) w = is-none (w .ground)
+    held-at (At.WalkNext Downgrade seen _) w =
+        let y : Walks part links (w .h) (suc (w .d)) = w .way in
+        is-alone seen (w .h) (omega arith) (w .over) (w .ish) (w .ground)
+    held-at (At.WalkPrev (ForQueue _) seen _ _) w = is-looking (handsOff seen) (w .past .ground)
+    held-at (At.WalkPrev ReadUnlock seen _ _) w = is-none (w .past .ground)
+    held-at (At.WalkPrev Downgrade seen _ _) w =
+        let y : Walks part links (w .past .h) (suc (w .past .d)) = w .past .way in
+        is-alone seen (w .past .h) (omega arith) (w .past .over) (w .past .ish) (w .past .ground)
+    held-at (At.WalkHead (ForQueue _) seen _) w = is-looking (handsOff seen) (w .ground)
+    held-at (At.WalkHead ReadUnlock seen _) w = is-none (w .ground)
+    held-at (At.WalkHead Downgrade seen _) w =
+        let y : Full part links (w .h) = w .way in is-alone seen (w .h) (omega arith) (w .over) (w .ish) (w .ground)
+    held-at (At.QueueCas _ _) w = is-none w
+    held-at (At.SplitPrev _ _ _) w = is-none (w .ground)
+    held-at (At.SplitStore _ _ _ _) w = is-none (w .it .ground)
+    held-at (At.SplitCas _ _ tail) w = is-one tail _ w
+    held-at (At.SplitRestore _ _ tail _) w = is-one tail _ (w .it)
+    held-at (At.TakeCas _ _ _) w = is-none (w .ground)
+    held-at (At.WakePrev _ current) w = is-waking current w
+    held-at (At.WakeStore _ current prev) w = is-storing current prev w
+    held-at At.ReadUnlockLoad w = is-none w
+    held-at (At.ReadUnlockCas _) w = is-none w
+    held-at (At.Subtract _ _) w = is-none (w .ground)
+    held-at At.WriteUnlockCas w = is-none w
+    held-at (At.ReleaseCas _) w = is-none w
+    held-at At.DowngradeCas w = is-none w
+    held-at (At.DowngradeSlowCas _) w = is-none w
 
     pub held-is : heldBy m (partOf (threadAt m t .place))
         ≡ listed (up (g .log) (g .taken t .beg) (g .taken t .end - g .taken t .beg))

@@ -1,4 +1,5 @@
--- How the lists of waiters change when the tickets move: by each effect as its name says, and in no other way. Assumes emptySpan.
+-- How the lists of waiters change when the tickets move: by each effect as its name says, and in no other way.
+-- Assumes nothing.
 use Prim.Native.Nat.{ℕ, suc, _+_, _-_, _≤_, _<_}
 use mathlib.Core.Bool.{Bool, true, false}
 use mathlib.Core.List.{List, [], _∷_, _++_}
@@ -70,10 +71,16 @@ module _ (g : Ghost) (wait : ℕ → Bool) (p : Parts g wait) (t : ℕ) where
   none-held s e = let z : s .end - s .beg ≡ 0 = omega arith in rw z
 
   one-held : (s : Span) (k : NodeNumber) → suc (s .beg) ≡ s .end → g .log (s .beg) ≡ k .0 → spanList (g .log) s ≡ k ∷ []
-  one-held s k e f = let z : s .end - s .beg ≡ 1 = omega arith in rw z (ap (λ x. x ∷ []) (sym (node-is k (g .log (s .beg)) (sym f))))
+  one-held s k e f =
+      let z : s .end - s .beg ≡ 1 = omega arith in rw z (ap (λ x. x ∷ []) (sym (node-is k (g .log (s .beg)) (sym f))))
 
-  first-held : (a b : ℕ) (k : NodeNumber) → a < b → g .log a ≡ k .0 → up (g .log) a (b - a) ≡ k ∷ up (g .log) (suc a) (b - suc a)
-  first-held a b k l f = let z : b - a ≡ suc (b - suc a) = omega arith in rw z (ap (λ x. x ∷ up (g .log) (suc a) (b - suc a)) (sym (node-is k (g .log a) (sym f))))
+  first-held : (a b : ℕ) (k : NodeNumber)
+      → a < b
+      → g .log a ≡ k .0
+      → up (g .log) a (b - a) ≡ k ∷ up (g .log) (suc a) (b - suc a)
+  first-held a b k l f =
+      let z : b - a ≡ suc (b - suc a) = omega arith in
+      rw z (ap (λ x. x ∷ up (g .log) (suc a) (b - suc a)) (sym (node-is k (g .log a) (sym f))))
 
   -- another thread's interval is not replaced
   not-mine : (s : Span) (u : ℕ) → u ≢ t → spanList (g .log) (upd (g .taken) t s u) ≡ heldList g u
@@ -83,8 +90,12 @@ module _ (g : Ghost) (wait : ℕ → Bool) (p : Parts g wait) (t : ℕ) where
   mine s = ap (spanList (g .log)) (upd-same (g .taken) t s)
 
   -- a registration leaves the older tickets
-  older : (a k : ℕ) → ((j : ℕ) → a ≤ j → j < a + k → j < g .hi) → up (upd (g .log) (g .hi) (suc t)) a k ≡ up (g .log) a k
-  older a k h = up-same (g .log) (upd (g .log) (g .hi) (suc t)) a k (λ j x y. upd-other (g .log) (g .hi) (suc t) j (λ e. omega (arith, h j x y)))
+  older : (a k : ℕ)
+      → ((j : ℕ) → a ≤ j → j < a + k → j < g .hi)
+      → up (upd (g .log) (g .hi) (suc t)) a k ≡ up (g .log) a k
+  older a k h =
+      up-same (g .log) (upd (g .log) (g .hi) (suc t)) a k
+      (λ j x y. upd-other (g .log) (g .hi) (suc t) j (λ e. omega (arith, h j x y)))
 
   held-older : (u : ℕ) → spanList (upd (g .log) (g .hi) (suc t)) (g .taken u) ≡ heldList g u
   held-older u = older (g .taken u .beg) (g .taken u .end - g .taken u .beg) (λ j x y. p .held u j x (omega arith) .0)
@@ -101,20 +112,32 @@ module _ (g : Ghost) (wait : ℕ → Bool) (p : Parts g wait) (t : ℕ) where
           let size : suc (g .hi) - g .lo ≡ suc (g .hi - g .lo) = omega (arith, p .order) in
           let top : g .lo + (g .hi - g .lo) ≡ g .hi = omega (arith, p .order) in
           rw size (up-more (upd (g .log) (g .hi) (suc t)) (g .lo) (g .hi - g .lo)
-          ∙ ap (λ l. l ++ (node (upd (g .log) (g .hi) (suc t) (g .lo + (g .hi - g .lo))) ∷ [])) (older (g .lo) (g .hi - g .lo) (λ j x y. omega arith))
+          ∙ ap (λ l. l ++ (node (upd (g .log) (g .hi) (suc t) (g .lo + (g .hi - g .lo))) ∷ []))
+          (older (g .lo) (g .hi - g .lo) (λ j x y. omega arith))
           ∙ ap (λ i. queueList g ++ (node (upd (g .log) (g .hi) (suc t) i) ∷ [])) top
-          ∙ ap (λ x. queueList g ++ (x ∷ [])) (ap node (upd-same (g .log) (g .hi) (suc t)) ∙ sym (node-is k (suc t) (sym (z .node)))))
+          ∙ ap (λ x. queueList g ++ (x ∷ []))
+          (ap node (upd-same (g .log) (g .hi) (suc t)) ∙ sym (node-is k (suc t) (sym (z .node)))))
   lists-after (setsAside k) g′ z = subst (After (setsAside k)) (sym (z .is)) (record {
-    moves = (first-held (g .lo) (g .hi) k (z .some) (z .node), none-held (g .taken t) (z .none), mine (oldestSpan g) ∙ one-held (oldestSpan g) k refl (z .node));
+    moves = (
+      first-held (g .lo) (g .hi) k (z .some) (z .node),
+      none-held (g .taken t) (z .none),
+      mine (oldestSpan g) ∙ one-held (oldestSpan g) k refl (z .node),
+    );
     others = not-mine (oldestSpan g);
   })
   lists-after (restores k) g′ z = subst (After (restores k)) (sym (z .is)) (record {
-    moves = (back, one-held (g .taken t) k (omega (arith, z .one, z .end)) (z .node), mine (emptySpan (g .taken t .beg)) ∙ none-held (emptySpan (g .taken t .beg)) (omega arith));
+    moves = (
+      back,
+      one-held (g .taken t) k (omega (arith, z .one, z .end)) (z .node),
+      mine (emptySpan (g .taken t .beg)) ∙ none-held (emptySpan (g .taken t .beg)) (omega arith),
+    );
     others = not-mine (emptySpan (g .taken t .beg));
   })
     where
       back : up (g .log) (g .taken t .beg) (g .hi - g .taken t .beg) ≡ k ∷ queueList g
-      back = first-held (g .taken t .beg) (g .hi) k (omega (arith, z .one, p .order)) (z .node) ∙ ap (λ a. k ∷ up (g .log) a (g .hi - a)) (z .one)
+      back =
+          first-held (g .taken t .beg) (g .hi) k (omega (arith, z .one, p .order)) (z .node)
+          ∙ ap (λ a. k ∷ up (g .log) a (g .hi - a)) (z .one)
   lists-after (takesTail k) g′ z = subst (After (takesTail k)) (sym (z .is)) (record {
     moves = (refl, one-held (g .taken t) k (z .one) (z .node), one-held (g .taken t) k (z .one) (z .node));
     others = λ u ne. refl;
@@ -124,7 +147,11 @@ module _ (g : Ghost) (wait : ℕ → Bool) (p : Parts g wait) (t : ℕ) where
     others = not-mine (wholeSpan g);
   })
   lists-after (completes k) g′ z = subst (After (completes k)) (sym (z .is)) (record {
-    moves = (refl, first-held (g .taken t .beg) (g .taken t .end) k (z .some) (z .node) ∙ ap (λ l. k ∷ l) (sym (mine (restSpan g t))));
+    moves = (
+      refl,
+      first-held (g .taken t .beg) (g .taken t .end) k (z .some) (z .node)
+          ∙ ap (λ l. k ∷ l) (sym (mine (restSpan g t))),
+    );
     others = not-mine (restSpan g t);
   })
 
@@ -159,14 +186,21 @@ event-lists m ok e =
       before = lists-of m ok;
       after = lists-of (after m e) (safe .ok);
       own = lists-apart (effectIn m e .queue) _ _ _ _ _ _ moved-aside (held .moves);
-      others = λ u ne. (ap₂ (λ a l. pick a l []) (same-place u ne) (held .others u ne), ap₂ (λ a l. pick a [] l) (same-place u ne) (held .others u ne));
+      others =
+          λ u ne. (
+            ap₂ (λ a l. pick a l []) (same-place u ne) (held .others u ne),
+            ap₂ (λ a l. pick a [] l) (same-place u ne) (held .others u ne),
+          );
     }
   where
     safe : Safe m (ok .ghost) (e .thread) (eventOf m (e .code) (e .thread))
     safe = event-safe m ok (e .thread) (e .code)
 
-    held : After (ok .ghost) (waitOf (threadAt m) (nodeIn (m .nodes))) (ok .inv .queue .parts) (e .thread .0) (effectIn m e .queue) (event-safe m ok (e .thread) (e .code) .ok .ghost)
-    held = lists-after (ok .ghost) _ (ok .inv .queue .parts) (e .thread .0) (effectIn m e .queue) (event-safe m ok (e .thread) (e .code) .ok .ghost) (event-safe m ok (e .thread) (e .code) .moved .0)
+    held : After (ok .ghost) (waitOf (threadAt m) (nodeIn (m .nodes))) (ok .inv .queue .parts) (e .thread .0)
+        (effectIn m e .queue) (event-safe m ok (e .thread) (e .code) .ok .ghost)
+    held =
+        lists-after (ok .ghost) _ (ok .inv .queue .parts) (e .thread .0) (effectIn m e .queue)
+        (event-safe m ok (e .thread) (e .code) .ok .ghost) (event-safe m ok (e .thread) (e .code) .moved .0)
 
     moved-aside : AsideAfter (effectIn m e .queue)
         (asideNow m ok (e .thread .0)) (asideNow (after m e) (safe .ok) (e .thread .0))

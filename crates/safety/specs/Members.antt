@@ -1,4 +1,6 @@
--- Who is in an interval of tickets, as a list: membership, no repeats, the last of it, the first so many of a longer one. Assumes nothing.
+-- Who is in an interval of tickets, as a list: membership, no repeats, the last of it,
+-- the first so many of a longer one.
+-- Assumes nothing.
 use Prim.Native.Nat.{ℕ, zero, suc, _+_, _-_, _≤_, _<_}
 use mathlib.Core.List.{List, _∷_, List·Memᴰ, List·Memᴰ·head, List·Memᴰ·tail, List·Memᴰ·not-nil, List·Memᴰ·cases-cons}
 use mathlib.Core.Logic.{_≢_, _⊎_, inl, inr}
@@ -32,23 +34,33 @@ module _ (log : ℕ → ℕ) where
   in-down a zero x i = absurd (List·Memᴰ·not-nil i)
   in-down a (suc k) x i = by (in-down a k x) (List·Memᴰ·cases-cons i)
     where
-      by : (List·Memᴰ x (down log a k) → Among log a k x) → (x ≡ node (log (a + k))) ⊎ List·Memᴰ x (down log a k) → Among log a (suc k) x
+      by : (List·Memᴰ x (down log a k) → Among log a k x)
+          → (x ≡ node (log (a + k))) ⊎ List·Memᴰ x (down log a k)
+          → Among log a (suc k) x
       by r (inl e) = record { ticket = a + k; low = omega arith; high = omega arith; node = ap (λ z. z .0) (sym e) }
-      by r (inr i) = let y : Among log a k x = r i in record { ticket = y .ticket; low = y .low; high = omega (arith, y .high); node = y .node }
+      by r (inr i) =
+          let y : Among log a k x = r i in
+          record { ticket = y .ticket; low = y .low; high = omega (arith, y .high); node = y .node }
 
   pub in-up : (a k : ℕ) (x : NodeNumber) → List·Memᴰ x (up log a k) → Among log a k x
   in-up a zero x i = absurd (List·Memᴰ·not-nil i)
   in-up a (suc k) x i = by (in-up (suc a) k x) (List·Memᴰ·cases-cons i)
     where
-      by : (List·Memᴰ x (up log (suc a) k) → Among log (suc a) k x) → (x ≡ node (log a)) ⊎ List·Memᴰ x (up log (suc a) k) → Among log a (suc k) x
+      by : (List·Memᴰ x (up log (suc a) k) → Among log (suc a) k x)
+          → (x ≡ node (log a)) ⊎ List·Memᴰ x (up log (suc a) k)
+          → Among log a (suc k) x
       by r (inl e) = record { ticket = a; low = omega arith; high = omega arith; node = ap (λ z. z .0) (sym e) }
-      by r (inr i) = let y : Among log (suc a) k x = r i in record { ticket = y .ticket; low = omega (arith, y .low); high = omega (arith, y .high); node = y .node }
+      by r (inr i) =
+          let y : Among log (suc a) k x = r i in
+          record { ticket = y .ticket; low = omega (arith, y .low); high = omega (arith, y .high); node = y .node }
 
   pub down-in : (a k i : ℕ) (x : NodeNumber) → a ≤ i → i < a + k → x ≡ node (log i) → List·Memᴰ x (down log a k)
   down-in a zero i x l h e = absurd (omega arith)
   down-in a (suc k) i x l h e = by (down-in a k i x) (eq? i (a + k))
     where
-      by : (a ≤ i → i < a + k → x ≡ node (log i) → List·Memᴰ x (down log a k)) → (i ≡ a + k) ⊎ (i ≢ a + k) → List·Memᴰ x (down log a (suc k))
+      by : (a ≤ i → i < a + k → x ≡ node (log i) → List·Memᴰ x (down log a k))
+          → (i ≡ a + k) ⊎ (i ≢ a + k)
+          → List·Memᴰ x (down log a (suc k))
       by r (inl z) = List·Memᴰ·head (e ∙ ap (λ j. node (log j)) z)
       by r (inr ne) = List·Memᴰ·tail (r l (omega arith) e)
 
@@ -56,14 +68,20 @@ module _ (log : ℕ → ℕ) where
   up-in a zero i x l h e = absurd (omega arith)
   up-in a (suc k) i x l h e = by (up-in (suc a) k i x) (eq? i a)
     where
-      by : (suc a ≤ i → i < suc a + k → x ≡ node (log i) → List·Memᴰ x (up log (suc a) k)) → (i ≡ a) ⊎ (i ≢ a) → List·Memᴰ x (up log a (suc k))
+      by : (suc a ≤ i → i < suc a + k → x ≡ node (log i) → List·Memᴰ x (up log (suc a) k))
+          → (i ≡ a) ⊎ (i ≢ a)
+          → List·Memᴰ x (up log a (suc k))
       by r (inl z) = List·Memᴰ·head (e ∙ ap (λ j. node (log j)) z)
       by r (inr ne) = List·Memᴰ·tail (r (omega arith) (omega arith) e)
 
-  pub no-repeats : (a k : ℕ) → ((i j : ℕ) → a ≤ i → i < a + k → a ≤ j → j < a + k → i ≢ j → log i ≢ log j) → NoRepeats (down log a k)
+  pub no-repeats : (a k : ℕ)
+      → ((i j : ℕ) → a ≤ i → i < a + k → a ≤ j → j < a + k → i ≢ j → log i ≢ log j)
+      → NoRepeats (down log a k)
   no-repeats a zero apart = tt
   no-repeats a (suc k) apart = (
-    λ i. let y : Among log a k (node (log (a + k))) = in-down a k (node (log (a + k))) i in apart (y .ticket) (a + k) (y .low) (omega (arith, y .high)) (omega arith) (omega arith) (λ z. omega (arith, y .high)) (y .node),
+    λ i. let y : Among log a k (node (log (a + k))) = in-down a k (node (log (a + k))) i in
+        apart (y .ticket) (a + k) (y .low) (omega (arith, y .high)) (omega arith) (omega arith)
+        (λ z. omega (arith, y .high)) (y .node),
     no-repeats a k (λ i j x y z w. apart i j x (omega arith) z (omega arith)),
   )
 
@@ -75,4 +93,7 @@ module _ (log : ℕ → ℕ) where
   -- the newest k of all
   pub take-down : (a k : ℕ) → take k (down log 0 (a + k)) ≡ down log a k
   take-down a zero = refl
-  take-down a (suc k) = rw (add-suc a k) (ap (λ i. node (log i) ∷ take k (down log 0 (a + k))) (zero-add (a + k)) ∙ ap (λ l. node (log (a + k)) ∷ l) (take-down a k))
+  take-down a (suc k) =
+      rw (add-suc a k)
+      (ap (λ i. node (log i) ∷ take k (down log 0 (a + k))) (zero-add (a + k))
+      ∙ ap (λ l. node (log (a + k)) ∷ l) (take-down a k))

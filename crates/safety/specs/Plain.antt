@@ -1,4 +1,6 @@
--- The plain lock: mutual exclusion from the invariant, and that an event's effect on the lock is a step that a plain lock allows. Assumes nothing.
+-- The plain lock: mutual exclusion from the invariant, and that an event's effect on the lock is a
+-- step that a plain lock allows.
+-- Assumes nothing.
 use Prim.Native.Nat.{ℕ, zero, suc, _+_, _≤_, _<_}
 use mathlib.Core.Bool.{Bool, true, false}
 use mathlib.Core.List.{List, [], _∷_}
@@ -19,15 +21,18 @@ use Rattle.state.specs.declared.holding.Holding.{Holding}
 use Rattle.state.specs.declared.holding.Holding.the-variants.{Nothing, Read, Write}
 use Rattle.state.specs.declared.machine.Machine.{Machine}
 use Rattle.state.specs.declared.place.Place.{Place}
-use Rattle.state.specs.declared.place.Place.the-variants.{Idle, TryReadLoad, TryReadCas, TryWriteOr, ContendLoad, ContendCas, RegisterCas, CompletedLoad, Park, WalkTail, WalkNext, WalkPrev, WalkHead, QueueCas, SplitPrev, SplitStore, SplitCas, SplitRestore, TakeCas, WakePrev, WakeStore, ReadUnlockLoad, ReadUnlockCas, Subtract, WriteUnlockCas, ReleaseCas, DowngradeCas, DowngradeSlowCas}
-use Rattle.lock.specs.Effect.{LockEffect, keeps, grantsRead, grantsWrite, releasesRead, releasesWrite, downgrades, Stand, releaseOf, lockEffect, wordChanged, standOf, heldAfter, atEnd, atEndOrWalk, atEndOrRelease}
+use Rattle.state.specs.declared.place.Place.the-variants as At
+use Rattle.lock.specs.Effect.{LockEffect, keeps, grantsRead, grantsWrite, releasesRead}
+use Rattle.lock.specs.Effect.{releasesWrite, downgrades, Stand, releaseOf, lockEffect}
+use Rattle.lock.specs.Effect.{wordChanged, standOf, heldAfter, atEnd, atEndOrWalk, atEndOrRelease}
 use Rattle.lock.specs.Event.{eventOf}
 use Rattle.promises.specs.Theorems.{changes-little, refusal-changes-nothing, holding-follows-effect}
 use Rattle.queue.specs.Updates.{upd, upd-same, upd-other, upd-self, eq?}
 use Rattle.queue.specs.Sums.{sum, sum-le, sum-two, sum-some}
 use Rattle.queue.specs.Tickets.{Ghost}
 use Rattle.invariant.specs.Table.{about, Lock, Free, Allowed}
-use Rattle.invariant.specs.Invariant.{readers, writers, leavers, Unqueued, empty, written, read, Locked, by-writer, by-readers, by-leaver, Inv}
+use Rattle.invariant.specs.Invariant.{readers, writers, leavers, Unqueued, empty, written}
+use Rattle.invariant.specs.Invariant.{read, Locked, by-writer, by-readers, by-leaver, Inv}
 use Rattle.invariant.specs.Bridge.{lockOf}
 use Rattle.invariant.specs.Events.{Ok, event-safe}
 use Rattle.safety.specs.Statements.{Event, after, effectIn, ranBy, ran, holdersOf, Allows, Plainly}
@@ -57,7 +62,8 @@ module _ (n : ℕ) (s : Lock) (g : Ghost) (i : Inv n s g) where
   pub exclusive : (1 ≤ readers n s → writers n s ≡ 0) × (writers n s ≤ 1)
   exclusive = by (queued (s .word)) (locked (s .word)) (downgraded (s .word)) refl refl refl
     where
-      bare : Unqueued (s .word) (readers n s) (writers n s) (leavers n s) → (1 ≤ readers n s → writers n s ≡ 0) × (writers n s ≤ 1)
+      bare : Unqueued (s .word) (readers n s) (writers n s) (leavers n s)
+          → (1 ≤ readers n s → writers n s ≡ 0) × (writers n s ≤ 1)
       bare (empty z h) = (λ l. omega (arith, h .reads), omega (arith, h .writes))
       bare (written z h) = (λ l. absurd (omega (arith, h .reads)), omega (arith, h .writes))
       bare (read z r h) = (λ l. h .writes, omega (arith, h .writes))
@@ -67,10 +73,20 @@ module _ (n : ℕ) (s : Lock) (g : Ghost) (i : Inv n s g) where
       held (by-readers r h) = (λ l. h .writes, omega (arith, h .writes))
       held (by-leaver h) = (λ l. h .writes, omega (arith, h .writes))
 
-      by : (q l d : Bool) → queued (s .word) ≡ q → locked (s .word) ≡ l → downgraded (s .word) ≡ d → (1 ≤ readers n s → writers n s ≡ 0) × (writers n s ≤ 1)
+      by : (q l d : Bool)
+          → queued (s .word) ≡ q
+          → locked (s .word) ≡ l
+          → downgraded (s .word) ≡ d
+          → (1 ≤ readers n s → writers n s ≡ 0) × (writers n s ≤ 1)
       by false l d eq el ed = bare (i .count .bare eq)
-      by true false d eq el ed = (λ _. i .count .unlocked eq el .writes, omega (arith, i .count .unlocked eq el .writes))
-      by true true true eq el ed = (λ _. i .count .handed eq el ed .writes, omega (arith, i .count .handed eq el ed .writes))
+      by true false d eq el ed = (
+        λ _. i .count .unlocked eq el .writes,
+        omega (arith, i .count .unlocked eq el .writes),
+      )
+      by true true true eq el ed = (
+        λ _. i .count .handed eq el ed .writes,
+        omega (arith, i .count .handed eq el ed .writes),
+      )
       by true true false eq el ed = held (i .count .held eq el ed)
 
   -- who holds anything is within the count
@@ -86,7 +102,12 @@ module _ (n : ℕ) (s : Lock) (g : Ghost) (i : Inv n s g) where
   no-writer t l u = by (decLt u n)
     where
       by : Dec (u < n) → writesOf (s .th u .holding) ≡ 0
-      by (yes k) = omega (arith, sum-le n (λ j. writesOf (s .th j .holding)) u k, exclusive .0 (omega (arith, sum-le n (λ j. readsOf (s .th j .holding)) t (within t (omega arith)))))
+      by (yes k) =
+          omega (
+            arith,
+            sum-le n (λ j. writesOf (s .th j .holding)) u k,
+            exclusive .0 (omega (arith, sum-le n (λ j. readsOf (s .th j .holding)) t (within t (omega arith)))),
+          )
       by (no k) = i .unheld u (omega arith) .writes
 
   -- where somebody writes, nobody else holds anything
@@ -109,24 +130,39 @@ module _ (n : ℕ) (s : Lock) (g : Ghost) (i : Inv n s g) where
       by : Dec (u < n) → Dec (u < t) → Free (s .th u .holding)
       by (no k) d = i .unheld u (omega arith)
       by (yes k) (yes d) = record { reads = no-reader k; writes = omega (arith, sum-two n w u t d tin, exclusive .1) }
-      by (yes k) (no d) = record { reads = no-reader k; writes = omega (arith, sum-two n w t u (omega arith) k, exclusive .1) }
+      by (yes k) (no d) = record {
+        reads = no-reader k;
+        writes = omega (arith, sum-two n w t u (omega arith) k, exclusive .1);
+      }
 
 pub whose : (m : Machine) → Ok m → Whose (holdersOf m)
 whose m ok = by (decLt 0 (readers (m .count) (lockOf m))) (decLt 0 (writers (m .count) (lockOf m)))
   where
-    some : (f : Holding → ℕ) → 0 < sum (m .count) (λ t. f (threadAt m t .holding)) → (t : ℕ) × (1 ≤ f (threadAt m t .holding))
+    some : (f : Holding → ℕ)
+        → 0 < sum (m .count) (λ t. f (threadAt m t .holding))
+        → (t : ℕ) × (1 ≤ f (threadAt m t .holding))
     some f l = sum-some (m .count) (λ t. f (threadAt m t .holding)) l
 
-    none : (f : Holding → ℕ) → (0 < sum (m .count) (λ t. f (threadAt m t .holding)) → ⊥) → (u : ℕ) → u < m .count → f (threadAt m u .holding) ≡ 0
-    none f l u k = let z : sum (m .count) (λ t. f (threadAt m t .holding)) ≤ 0 = omega arith in omega (arith, sum-le (m .count) (λ t. f (threadAt m t .holding)) u k)
+    none : (f : Holding → ℕ)
+        → (0 < sum (m .count) (λ t. f (threadAt m t .holding)) → ⊥)
+        → (u : ℕ)
+        → u < m .count
+        → f (threadAt m u .holding) ≡ 0
+    none f l u k =
+        let z : sum (m .count) (λ t. f (threadAt m t .holding)) ≤ 0 = omega arith in
+        omega (arith, sum-le (m .count) (λ t. f (threadAt m t .holding)) u k)
 
     by : Dec (0 < readers (m .count) (lockOf m)) → Dec (0 < writers (m .count) (lockOf m)) → Whose (holdersOf m)
     by (yes r) w =
         let x : (t : ℕ) × (1 ≤ readsOf (threadAt m t .holding)) = some readsOf r in
-        readersHold (x .0) (reads-is (threadAt m (x .0) .holding) (x .1)) (λ u e. absurd (omega (arith, no-writer (m .count) (lockOf m) (ok .ghost) (ok .inv) (x .0) (x .1) u, ap writesOf e)))
+        readersHold (x .0) (reads-is (threadAt m (x .0) .holding) (x .1))
+        (λ u e. absurd
+        (omega (arith, no-writer (m .count) (lockOf m) (ok .ghost) (ok .inv) (x .0) (x .1) u, ap writesOf e)))
     by (no r) (yes w) =
         let x : (t : ℕ) × (1 ≤ writesOf (threadAt m t .holding)) = some writesOf w in
-        writersHold (x .0) (writes-is (threadAt m (x .0) .holding) (x .1)) (λ u ne. free-is (threadAt m u .holding) (no-other (m .count) (lockOf m) (ok .ghost) (ok .inv) (x .0) (x .1) u ne))
+        writersHold (x .0) (writes-is (threadAt m (x .0) .holding) (x .1))
+        (λ u ne. free-is (threadAt m u .holding)
+        (no-other (m .count) (lockOf m) (ok .ghost) (ok .inv) (x .0) (x .1) u ne))
     by (no r) (no w) = nobodys (λ u. free-is (threadAt m u .holding) (free u (decLt u (m .count))))
       where
         free : (u : ℕ) → Dec (u < m .count) → Free (threadAt m u .holding)
@@ -149,7 +185,10 @@ module _ (h : Holding) (changed : Bool) (s : Stand) where
   made-or-kept false e f = tt
 
   released : HeldFor (releaseOf h) h
-  released = pick-both (λ e. HeldFor e h) (ltb 0 (writesOf h)) _ _ (λ l. ltb-true 0 (writesOf h) l) (λ _. pick-both (λ e. HeldFor e h) (ltb 0 (readsOf h)) _ _ (λ l. ltb-true 0 (readsOf h) l) (λ _. tt))
+  released =
+      pick-both (λ e. HeldFor e h) (ltb 0 (writesOf h)) _ _
+      (λ l. ltb-true 0 (writesOf h) l)
+      (λ _. pick-both (λ e. HeldFor e h) (ltb 0 (readsOf h)) _ _ (λ l. ltb-true 0 (readsOf h) l) (λ _. tt))
 
   granted : (writer : Bool) → Free h → HeldFor (pick writer grantsWrite grantsRead) h
   granted true f = f
@@ -157,34 +196,35 @@ module _ (h : Holding) (changed : Bool) (s : Stand) where
 
   effect-held : (p : Place) → Allowed (about p .may) h → HeldFor (lockEffect p h changed s) h
   unfolding lockEffect
-  effect-held Idle a = tt
-  effect-held (TryReadLoad _) a = tt
-  effect-held (TryReadCas _ _) a = made-or-kept changed grantsRead a
-  effect-held (TryWriteOr _) a = made-or-kept changed grantsWrite a
-  effect-held (ContendLoad _ _) a = tt
-  effect-held (ContendCas writer _ _) a = made-or-kept (atEnd s) (pick writer grantsWrite grantsRead) (granted writer a)
-  effect-held (RegisterCas _ _ _) a = tt
-  effect-held (CompletedLoad _) a = tt
-  effect-held (Park _) a = tt
-  effect-held (WalkTail _ _ _) a = tt
-  effect-held (WalkNext _ _ _) a = tt
-  effect-held (WalkPrev _ _ _ _) a = tt
-  effect-held (WalkHead _ _ _) a = tt
-  effect-held (QueueCas _ _) a = tt
-  effect-held (SplitPrev _ _ _) a = tt
-  effect-held (SplitStore _ _ _ _) a = tt
-  effect-held (SplitCas _ _ _) a = tt
-  effect-held (SplitRestore _ _ _ _) a = tt
-  effect-held (TakeCas _ _ _) a = tt
-  effect-held (WakePrev _ _) a = tt
-  effect-held (WakeStore _ _ _) a = tt
-  effect-held ReadUnlockLoad a = tt
-  effect-held (ReadUnlockCas _) a = made-or-kept (atEnd s) releasesRead (omega (arith, a .reads))
-  effect-held (Subtract _ _) a = made-or-kept (atEndOrRelease s) releasesRead (omega (arith, a .reads))
-  effect-held WriteUnlockCas a = made-or-kept (atEnd s) releasesWrite (omega (arith, a .writes))
-  effect-held (ReleaseCas _) a = made-or-kept (atEndOrWalk s) (releaseOf h) released
-  effect-held DowngradeCas a = made-or-kept (atEnd s) downgrades (omega (arith, a .writes))
-  effect-held (DowngradeSlowCas _) a = made-or-kept (atEndOrWalk s) downgrades (omega (arith, a .writes))
+  effect-held At.Idle a = tt
+  effect-held (At.TryReadLoad _) a = tt
+  effect-held (At.TryReadCas _ _) a = made-or-kept changed grantsRead a
+  effect-held (At.TryWriteOr _) a = made-or-kept changed grantsWrite a
+  effect-held (At.ContendLoad _ _) a = tt
+  effect-held (At.ContendCas writer _ _) a =
+      made-or-kept (atEnd s) (pick writer grantsWrite grantsRead) (granted writer a)
+  effect-held (At.RegisterCas _ _ _) a = tt
+  effect-held (At.CompletedLoad _) a = tt
+  effect-held (At.Park _) a = tt
+  effect-held (At.WalkTail _ _ _) a = tt
+  effect-held (At.WalkNext _ _ _) a = tt
+  effect-held (At.WalkPrev _ _ _ _) a = tt
+  effect-held (At.WalkHead _ _ _) a = tt
+  effect-held (At.QueueCas _ _) a = tt
+  effect-held (At.SplitPrev _ _ _) a = tt
+  effect-held (At.SplitStore _ _ _ _) a = tt
+  effect-held (At.SplitCas _ _ _) a = tt
+  effect-held (At.SplitRestore _ _ _ _) a = tt
+  effect-held (At.TakeCas _ _ _) a = tt
+  effect-held (At.WakePrev _ _) a = tt
+  effect-held (At.WakeStore _ _ _) a = tt
+  effect-held At.ReadUnlockLoad a = tt
+  effect-held (At.ReadUnlockCas _) a = made-or-kept (atEnd s) releasesRead (omega (arith, a .reads))
+  effect-held (At.Subtract _ _) a = made-or-kept (atEndOrRelease s) releasesRead (omega (arith, a .reads))
+  effect-held At.WriteUnlockCas a = made-or-kept (atEnd s) releasesWrite (omega (arith, a .writes))
+  effect-held (At.ReleaseCas _) a = made-or-kept (atEndOrWalk s) (releaseOf h) released
+  effect-held At.DowngradeCas a = made-or-kept (atEnd s) downgrades (omega (arith, a .writes))
+  effect-held (At.DowngradeSlowCas _) a = made-or-kept (atEndOrWalk s) downgrades (omega (arith, a .writes))
 
 -- ── an event is a step of the plain lock ──
 
@@ -203,18 +243,29 @@ module _ (m : Machine) (ok : Ok m) (e : Event) where
   own-holds : holdersOf (after m e) (e .thread .0) ≡ heldAfter (effectIn m e .lock) (holdersOf m (e .thread .0))
   own-holds = holding-follows-effect m (e .code) (e .thread) (ok .sized)
 
-  all-hold : (h : Holding) → holdersOf (after m e) (e .thread .0) ≡ h → holdersOf (after m e) ≡ upd (holdersOf m) (e .thread .0) h
+  all-hold : (h : Holding)
+      → holdersOf (after m e) (e .thread .0) ≡ h
+      → holdersOf (after m e) ≡ upd (holdersOf m) (e .thread .0) h
   all-hold h z = fun-ext λ u. by u (eq? u (e .thread .0))
     where
-      by : (u : ℕ) → (u ≡ e .thread .0) ⊎ (u ≢ e .thread .0) → holdersOf (after m e) u ≡ upd (holdersOf m) (e .thread .0) h u
+      by : (u : ℕ)
+          → (u ≡ e .thread .0) ⊎ (u ≢ e .thread .0)
+          → holdersOf (after m e) u ≡ upd (holdersOf m) (e .thread .0) h u
       by u (inl f) = rw (f, upd-same (holdersOf m) (e .thread .0) h) z
       by u (inr ne) = rw (upd-other (holdersOf m) (e .thread .0) h u ne) (others-hold u ne)
 
   asked : HeldFor (effectIn m e .lock) (holdersOf m (e .thread .0))
-  asked = effect-held (holdersOf m (e .thread .0)) (wordChanged m (after m e)) (standOf (threadAt (after m e) (e .thread .0) .place)) (threadAt m (e .thread .0) .place) (ok .inv .holding (e .thread .0))
+  asked =
+      effect-held (holdersOf m (e .thread .0)) (wordChanged m (after m e))
+      (standOf (threadAt (after m e) (e .thread .0) .place)) (threadAt m (e .thread .0) .place)
+      (ok .inv .holding (e .thread .0))
 
   -- what is so of every other thread after it, and of this one before it, was so of all before
-  before : (P : Holding → Type 0) → P (holdersOf m (e .thread .0)) → ((u : ℕ) → u ≢ e .thread .0 → P (holdersOf (after m e) u)) → (u : ℕ) → P (holdersOf m u)
+  before : (P : Holding → Type 0)
+      → P (holdersOf m (e .thread .0))
+      → ((u : ℕ) → u ≢ e .thread .0 → P (holdersOf (after m e) u))
+      → (u : ℕ)
+      → P (holdersOf m u)
   before P own others u = by (eq? u (e .thread .0))
     where
       by : (u ≡ e .thread .0) ⊎ (u ≢ e .thread .0) → P (holdersOf m u)
@@ -230,16 +281,24 @@ module _ (m : Machine) (ok : Ok m) (e : Event) where
       not-write : (h : Holding) → writesOf h ≡ 0 → h ≢ Write
       not-write h z f = omega (arith, ap writesOf f)
 
-      by : (f : LockEffect) → HeldFor f (holdersOf m (e .thread .0)) → holdersOf (after m e) (e .thread .0) ≡ heldAfter f (holdersOf m (e .thread .0))
+      by : (f : LockEffect)
+          → HeldFor f (holdersOf m (e .thread .0))
+          → holdersOf (after m e) (e .thread .0) ≡ heldAfter f (holdersOf m (e .thread .0))
           → Allows f (holdersOf m) (e .thread .0) (holdersOf (after m e))
       by keeps a z = all-hold (holdersOf m (e .thread .0)) z ∙ upd-self (holdersOf m) (e .thread .0)
       by grantsRead a z = (
         free-is _ a,
-        before (λ h. h ≢ Write) (not-write _ (a .writes)) (λ u ne. not-write _ (no-writer (after m e .count) (lockOf (after m e)) (after-ok .ghost) inv (e .thread .0) (omega (arith, ap readsOf z)) u)),
+        before (λ h. h ≢ Write) (not-write _ (a .writes))
+            (λ u ne. not-write _
+            (no-writer (after m e .count) (lockOf (after m e)) (after-ok .ghost) inv (e .thread .0)
+            (omega (arith, ap readsOf z)) u)),
         all-hold Read z,
       )
       by grantsWrite a z = (
-        before (λ h. h ≡ Nothing) (free-is _ a) (λ u ne. free-is _ (no-other (after m e .count) (lockOf (after m e)) (after-ok .ghost) inv (e .thread .0) (omega (arith, ap writesOf z)) u ne)),
+        before (λ h. h ≡ Nothing) (free-is _ a)
+            (λ u ne. free-is _
+            (no-other (after m e .count) (lockOf (after m e)) (after-ok .ghost) inv (e .thread .0)
+            (omega (arith, ap writesOf z)) u ne)),
         all-hold Write z,
       )
       by releasesRead a z = (reads-is _ a, all-hold Nothing z)
@@ -249,4 +308,8 @@ module _ (m : Machine) (ok : Ok m) (e : Event) where
 pub run-allowed : (m : Machine) → Ok m → (es : List Event) → Plainly eventOf (holdersOf m) m es (holdersOf (ran m es))
 unfolding Plainly ranBy
 run-allowed m ok [] = refl
-run-allowed m ok (e ∷ es) = (holdersOf (after m e), event-allowed m ok e, run-allowed (after m e) (event-safe m ok (e .thread) (e .code) .ok) es)
+run-allowed m ok (e ∷ es) = (
+  holdersOf (after m e),
+  event-allowed m ok e,
+  run-allowed (after m e) (event-safe m ok (e .thread) (e .code) .ok) es,
+)

@@ -1,4 +1,5 @@
--- Each waiter is in exactly one list: its ticket is somebody's, and nobody else's. Assumes nothing.
+-- Each waiter is in exactly one list: its ticket is somebody's, and nobody else's.
+-- Assumes nothing.
 use Prim.Native.Nat.{ℕ, suc, _+_, _-_}
 use mathlib.Core.Bool.{Bool, true, false}
 use mathlib.Core.List.{[], List·Memᴰ·not-nil}
@@ -79,13 +80,23 @@ module _ (m : Machine) (ok : Ok m) where
 
   in-held : (k : NodeNumber) (t : ℕ) → In k (heldBy m (part t)) → Ticketed k (suc t)
   in-held k t i =
-      let y : Among (g .log) (g .taken t .beg) (g .taken t .end - g .taken t .beg) k = in-up (g .log) (g .taken t .beg) (g .taken t .end - g .taken t .beg) k (subst (In k) (held-is m ok t) i) in
-      record { ticket = y .ticket; held = ok .inv .queue .parts .held t (y .ticket) (y .low) (omega (arith, y .low, y .high)) .1; node = y .node }
+      let y : Among (g .log) (g .taken t .beg) (g .taken t .end - g .taken t .beg) k =
+      in-up (g .log) (g .taken t .beg) (g .taken t .end - g .taken t .beg) k (subst (In k) (held-is m ok t) i) in
+      record {
+        ticket = y .ticket;
+        held = ok .inv .queue .parts .held t (y .ticket) (y .low) (omega (arith, y .low, y .high)) .1;
+        node = y .node;
+      }
 
   ticketed : (k : NodeNumber) (s : Spot) → At m k s → Ticketed k (ownerAt s)
   ticketed k queue i =
-      let y : Among (g .log) (g .lo) (g .hi - g .lo) k = in-down (g .log) (g .lo) (g .hi - g .lo) k (subst (In k) (listing-is m ok) i) in
-      record { ticket = y .ticket; held = ok .inv .queue .parts .queued (y .ticket) (y .low) (omega (arith, y .low, y .high)); node = y .node }
+      let y : Among (g .log) (g .lo) (g .hi - g .lo) k =
+      in-down (g .log) (g .lo) (g .hi - g .lo) k (subst (In k) (listing-is m ok) i) in
+      record {
+        ticket = y .ticket;
+        held = ok .inv .queue .parts .queued (y .ticket) (y .low) (omega (arith, y .low, y .high));
+        node = y .node;
+      }
   ticketed k (aside t) i = in-held k t (is-aside k t i .1)
   ticketed k (waker t) i = in-held k t (is-waker k t i .1)
 
@@ -113,13 +124,19 @@ module _ (m : Machine) (ok : Ok m) where
 
   -- the spot of a waiter
   found : (k : NodeNumber) → (g .log (g .tk (k .0)) ≡ k .0) → Somewhere g (g .tk (k .0)) → (s : Spot) × At m k s
-  found k e (inl x) = (queue, subst (In k) (sym (listing-is m ok)) (down-in (g .log) (g .lo) (g .hi - g .lo) (g .tk (k .0)) k (x .0) (omega arith) (node-is k (g .log (g .tk (k .0))) (sym e))))
+  found k e (inl x) = (
+    queue,
+    subst (In k) (sym (listing-is m ok))
+        (down-in (g .log) (g .lo) (g .hi - g .lo) (g .tk (k .0)) k (x .0) (omega arith)
+        (node-is k (g .log (g .tk (k .0))) (sym e))),
+  )
   found k e (inr x) = by (asideOf (part (x .0))) refl
     where
       there : In k (heldBy m (part (x .0)))
       there =
           subst (In k) (sym (held-is m ok (x .0)))
-          (up-in (g .log) (g .taken (x .0) .beg) (g .taken (x .0) .end - g .taken (x .0) .beg) (g .tk (k .0)) k (x .1) (omega (arith, x .1, x .2)) (node-is k (g .log (g .tk (k .0))) (sym e)))
+          (up-in (g .log) (g .taken (x .0) .beg) (g .taken (x .0) .end - g .taken (x .0) .beg) (g .tk (k .0)) k (x .1)
+          (omega (arith, x .1, x .2)) (node-is k (g .log (g .tk (k .0))) (sym e)))
 
       by : (b : Bool) → asideOf (part (x .0)) ≡ b → (s : Spot) × At m k s
       by true z = (aside (x .0), subst (λ a. In k (pick a (heldBy m (part (x .0))) (listed []))) (sym z) there)
@@ -140,7 +157,10 @@ module _ (m : Machine) (ok : Ok m) where
       by x = record {
         spot = x .0;
         there = x .1;
-        only = λ s a. same-spot (nodeOf (thread t)) s (x .0) a (x .1) (one-owner (nodeOf (thread t)) (ownerAt s) (ownerAt (x .0)) (ticketed (nodeOf (thread t)) s a) (ticketed (nodeOf (thread t)) (x .0) (x .1)));
+        only =
+            λ s a. same-spot (nodeOf (thread t)) s (x .0) a (x .1)
+            (one-owner (nodeOf (thread t)) (ownerAt s) (ownerAt (x .0)) (ticketed (nodeOf (thread t)) s a)
+            (ticketed (nodeOf (thread t)) (x .0) (x .1)));
       }
 
   -- nobody else is anywhere

@@ -1,4 +1,6 @@
--- Where nobody holds the lock and every thread rests, nobody is asleep: somebody would be responsible for it, and nobody is there to be. Assumes nothing.
+-- Where nobody holds the lock and every thread rests, nobody is asleep:
+-- somebody would be responsible for it, and nobody is there to be.
+-- Assumes nothing.
 use Prim.Native.Nat.{ℕ, suc, _≤_, _<_}
 use mathlib.Core.Bool.{Bool, true, false}
 use mathlib.Core.Logic.{_⊎_, inl, inr}
@@ -12,7 +14,8 @@ use Rattle.queue.specs.Sums.{sum-zero}
 use Rattle.queue.specs.Tickets.{Ghost, Somewhere}
 use Rattle.queue.specs.Roles.{none}
 use Rattle.invariant.specs.Table.{waiting, about, Lock, aboutAt, waitOf, Free, weight, leaver}
-use Rattle.invariant.specs.Invariant.{readers, writers, leavers, Locked, by-writer, by-readers, by-leaver, Responsible, contends, called, wakes, Inv}
+use Rattle.invariant.specs.Invariant.{readers, writers, leavers, Locked, by-writer, by-readers}
+use Rattle.invariant.specs.Invariant.{by-leaver, Responsible, contends, called, wakes, Inv}
 
 -- idle, or asleep without a wake token; nothing is held
 pub record Rests (s : Lock) (t : ℕ) : Type 0 where
@@ -31,7 +34,13 @@ silent s t r = by (r .place)
   where
     by : (s .th t .place ≡ Idle) ⊎ ((w : Bool) × (s .th t .place ≡ Park w) × (s .th t .token ≡ false)) → Silent s t
     by (inl e) = record { role = rw e; owner = rw e; leaves = rw e; contends = rw e; registered = rw e (never refl) }
-    by (inr x) = record { role = rw (x .1); owner = rw (x .1); leaves = rw (x .1); contends = rw (x .1); registered = rw (x .1) (λ z. (refl, x .2)) }
+    by (inr x) = record {
+      role = rw (x .1);
+      owner = rw (x .1);
+      leaves = rw (x .1);
+      contends = rw (x .1);
+      registered = rw (x .1) (λ z. (refl, x .2));
+    }
 
 module _ (n : ℕ) (s : Lock) (g : Ghost) (i : Inv n s g) (all : (t : ℕ) → Rests s t) where
   -- nobody has taken anything off
@@ -51,11 +60,20 @@ module _ (n : ℕ) (s : Lock) (g : Ghost) (i : Inv n s g) (all : (t : ℕ) → R
   no-leavers = sum-zero n (λ t. leaver (s .th t)) (λ t l. rw (silent s t (all t) .leaves))
 
   no-owner : queueLocked (s .word) ≡ false
-  no-owner = not-true (queueLocked (s .word)) (λ e. omega (arith, sum-zero n (λ t. weight (aboutAt s t .owner)) (λ t l. rw (silent s t (all t) .owner)), i .owners, ap weight e))
+  no-owner =
+      not-true (queueLocked (s .word))
+      (λ e. omega (
+        arith,
+        sum-zero n (λ t. weight (aboutAt s t .owner)) (λ t l. rw (silent s t (all t) .owner)),
+        i .owners,
+        ap weight e,
+      ))
 
   -- a thread at park that is completed has a token
   uncalled : (t : ℕ) → aboutAt s t .registered ≡ true → s .nd (suc t) .completed ≡ true → ⊥
-  uncalled t r c = let x : (aboutAt s t .asleep ≡ true) × (s .th t .token ≡ false) = silent s t (all t) .registered r in never (x .1) (i .token t (x .0) c)
+  uncalled t r c =
+      let x : (aboutAt s t .asleep ≡ true) × (s .th t .token ≡ false) = silent s t (all t) .registered r in
+      never (x .1) (i .token t (x .0) c)
 
   nobody-responsible : (t : ℕ) → Responsible s g t → ⊥
   nobody-responsible t (contends e) = never (silent s t (all t) .contends) e
@@ -85,7 +103,8 @@ module _ (n : ℕ) (s : Lock) (g : Ghost) (i : Inv n s g) (all : (t : ℕ) → R
 
       no-queue : g .lo < g .hi → (q : Bool) → queued (s .word) ≡ q → ⊥
       no-queue l false z = omega (arith, i .nobody z)
-      no-queue l true z = let x : (u : ℕ) × Responsible s g u = i .seen-to z (unlocked z) no-owner in nobody-responsible (x .0) (x .1)
+      no-queue l true z =
+          let x : (u : ℕ) × Responsible s g u = i .seen-to z (unlocked z) no-owner in nobody-responsible (x .0) (x .1)
 
       by : Somewhere g (g .tk (suc t)) → ⊥
       by (inl x) = no-queue (omega arith) (queued (s .word)) refl

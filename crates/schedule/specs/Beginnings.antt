@@ -1,4 +1,5 @@
--- How far a replay comes, by one induction on the events: what the loop of the code keeps, at each event that it reaches.
+-- How far a replay comes, by one induction on the events: what the loop of the code keeps,
+-- at each event that it reaches.
 -- Assumes nothing.
 use Prim.Native.Nat.{ℕ, zero, suc, _+_, _*_, _/_, _<_, _≤_}
 use mathlib.Core.Bool.{Bool, true, false}
@@ -30,11 +31,18 @@ module _ (m : Machine) (s : List ℕ) where
   by-reply : (k : ℕ) (r : Reply) → r ≡ replyAt m s k → k < length s / eventWidth → Reaches k → Way k
   unfolding stateAt
   by-reply k (Refused refusal) e h a =
-      ends (refused refusal h (sym e) (sym (a .same) ∙ refused-here (stateAt m s k) s k (eventAt (stateAt m s k) s k) h refl refusal (sym e)))
+      ends (refused refusal h (sym e)
+      (sym (a .same) ∙ refused-here (stateAt m s k) s k (eventAt (stateAt m s k) s k) h refl refusal (sym e)))
   by-reply k (Accepted answer woken) e h a =
       let f : k + 1 ≡ suc k = omega arith in
       goes (record { answer = answer; woken = woken; is = sym e })
-      (record { there = omega arith; same = rw f at (sym (accepted-here (stateAt m s k) s k (eventAt (stateAt m s k) s k) h refl answer woken (sym e)) ∙ a .same) })
+      (record {
+        there = omega arith;
+        same =
+            rw f at
+            (sym (accepted-here (stateAt m s k) s k (eventAt (stateAt m s k) s k) h refl answer woken (sym e))
+            ∙ a .same);
+      })
 
   by-length : (k : ℕ) (b : Bool) → ltb k (length s / eventWidth) ≡ b → Reaches k → Way k
   by-length k true e a = by-reply k (replyAt m s k) refl (ltb-true k (length s / eventWidth) e) a
@@ -72,7 +80,10 @@ module _ (m : Machine) (s : List ℕ) where
 
   -- as far as it ran, each event was accepted
   pub ran-accepted : (k : ℕ) → k ≤ replayOf m s .run → Beginning m s k
-  ran-accepted k h = record { there = climb k h .there; accepted = λ i j. accepts-by i (omega arith) (way i (climb i (omega arith))) }
+  ran-accepted k h = record {
+    there = climb k h .there;
+    accepted = λ i j. accepts-by i (omega arith) (way i (climb i (omega arith)));
+  }
 
   never-both : (k : ℕ) → Accepts m s k → End m s k → k < length s / eventWidth → ⊥
   never-both k a (none-left h e) j = omega arith

@@ -31,7 +31,8 @@ abbrev pub movedBy : Cursor → List ℕ → Outcome → Moved
 movedBy c s o = movedTo (reached c (o .reply) (o .machine)) (Event (codeAt s (c .at)) (threadAt s (c .at)) (o .reply))
 
 unfoldable pub movedOf : Cursor → List ℕ → Moved
-movedOf c s = pick (leb (length s / eventWidth) (c .at)) (movedTo c Ended) (movedBy c s (eventAt (c .machine) s (c .at)))
+movedOf c s =
+    pick (leb (length s / eventWidth) (c .at)) (movedTo c Ended) (movedBy c s (eventAt (c .machine) s (c .at)))
 
 -- the cursor after so many moves
 unfoldable pub cursorAfter : ℕ → Cursor → List ℕ → Cursor

@@ -1,4 +1,5 @@
--- One move of a cursor, by the reply of the event that it stands before. Assumes nothing.
+-- One move of a cursor, by the reply of the event that it stands before.
+-- Assumes nothing.
 use Prim.Native.Nat.{ℕ, _+_, _/_, _<_, _≤_}
 use mathlib.Core.List.{List}
 use mathlib.Core.Path.{_≡_, sym, ap, _∙_}
@@ -33,5 +34,8 @@ module _ (c : Cursor) (s : List ℕ) where
     pub moved-refused : (refusal : Refusal) → o .reply ≡ Refused refusal → movedOf c s ≡ movedTo c (seen (o .reply))
     moved-refused refusal r = by-outcome ∙ ap (λ (x : Reply). movedTo (reached c x (o .machine)) (seen (o .reply))) r
 
-    pub moved-accepted : (answer : Answer) (woken : Owner) → o .reply ≡ Accepted answer woken → movedOf c s ≡ movedTo (record { machine = o .machine; at = c .at + 1 }) (seen (o .reply))
-    moved-accepted answer woken r = by-outcome ∙ ap (λ (x : Reply). movedTo (reached c x (o .machine)) (seen (o .reply))) r
+    pub moved-accepted : (answer : Answer) (woken : Owner)
+        → o .reply ≡ Accepted answer woken
+        → movedOf c s ≡ movedTo (record { machine = o .machine; at = c .at + 1 }) (seen (o .reply))
+    moved-accepted answer woken r =
+        by-outcome ∙ ap (λ (x : Reply). movedTo (reached c x (o .machine)) (seen (o .reply))) r

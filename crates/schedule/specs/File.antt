@@ -1,5 +1,6 @@
--- The schedule file's check, by document 01: its numbers, and the order of its refusals 10 to 14. Another version of the
--- file changes the numbers here and not the form. Assumes nothing.
+-- The schedule file's check, by document 01: its numbers, and the order of its refusals 10 to 14. Another version of
+-- the file changes the numbers here and not the form.
+-- Assumes nothing.
 use Prim.Native.Nat.{ℕ, _+_, _-_, _*_, _/_, _%_}
 use mathlib.Core.Bool.{Bool, false}
 use mathlib.Core.List.{List}
@@ -44,7 +45,9 @@ statedLength s = bigEndian (getD s 1 0) (getD s 2 0) (getD s 3 0) (getD s 4 0)
 
 -- the file's size less 5, and whole events after the thread count: odd
 abbrev pub rightLength : List ℕ → Bool
-rightLength s = pick (eqb (statedLength s) (length s - countedFrom)) (eqb (statedLength s % eventWidth) (headerLength - countedFrom)) false
+rightLength s =
+    pick (eqb (statedLength s) (length s - countedFrom))
+    (eqb (statedLength s % eventWidth) (headerLength - countedFrom)) false
 
 abbrev pub threadsIn : List ℕ → ℕ
 threadsIn s = getD s countedFrom 0

@@ -1,4 +1,5 @@
--- The file's check in words: each refusal exactly on its condition, where those before it do not hold. Assumes nothing.
+-- The file's check in words: each refusal exactly on its condition, where those before it do not hold.
+-- Assumes nothing.
 use Prim.Native.Nat.{ℕ, _+_, _-_, _*_, _%_, _<_, _≤_}
 use mathlib.Core.Bool.{true, false}
 use mathlib.Core.List.{List}
@@ -9,7 +10,8 @@ use lib.Dec.{T, leb, eqb}
 use lib.ListN.{length, getD}
 use Rattle.word.specs.Cases.{pick-both, pick-first}
 use Rattle.state.specs.Machine.{goodCount}
-use Rattle.schedule.specs.File.{fileVersion, countedFrom, headerLength, eventWidth, eventLimit, statedLength, rightLength, threadsIn, eventsIn, unless, checkedOf}
+use Rattle.schedule.specs.File.{fileVersion, countedFrom, headerLength, eventWidth, eventLimit, statedLength}
+use Rattle.schedule.specs.File.{rightLength, threadsIn, eventsIn, unless, checkedOf}
 use Rattle.schedule.specs.declared.file.FileRefusal.the-variants.{TooShort, Version, Length, Threads, TooMany}
 use Rattle.schedule.specs.declared.file.Checked.{Checked}
 use Rattle.schedule.specs.declared.file.Checked.the-variants.{Accepted, Refused}
@@ -70,11 +72,18 @@ module _ (s : List ℕ) where
 
   odd-true : rightLength s ≡ true → Odd
   odd-true e =
-      let p = pick-first (eqb (statedLength s) (length s - countedFrom)) (eqb (statedLength s % eventWidth) (headerLength - countedFrom)) false true not-both e in
+      let p =
+      pick-first (eqb (statedLength s) (length s - countedFrom))
+      (eqb (statedLength s % eventWidth) (headerLength - countedFrom)) false true not-both e in
       (eqb-true (statedLength s) (length s - countedFrom) (p .0), eqb-true (statedLength s % eventWidth) 1 (p .1))
 
   odd-false : rightLength s ≡ false → Odd → ⊥
-  odd-false e o = not-both (sym e ∙ simp (eq-eqb (statedLength s) (length s - countedFrom) (o .0), eq-eqb (statedLength s % eventWidth) 1 (o .1)))
+  odd-false e o =
+      not-both (sym e
+      ∙ simp (
+        eq-eqb (statedLength s) (length s - countedFrom) (o .0),
+        eq-eqb (statedLength s % eventWidth) 1 (o .1),
+      ))
 
   by-length : Versioned → Judged (unless (rightLength s) Length peopled)
   by-length p =
@@ -82,10 +91,15 @@ module _ (s : List ℕ) where
       (rightLength s)
       peopled
       (Refused Length)
-      (λ e. by-threads (record { versioned = p; odd = odd-true e; whole = let o = odd-true e in let h = p .sized in omega arith }))
+      (λ e. by-threads (record {
+        versioned = p;
+        odd = odd-true e;
+        whole = let o = odd-true e in let h = p .sized in omega arith;
+      }))
       (λ e. length-wrong p (odd-false e))
 
-  by-version : headerLength ≤ length s → Judged (unless (eqb (getD s 0 0) fileVersion) Version (unless (rightLength s) Length peopled))
+  by-version : headerLength ≤ length s
+      → Judged (unless (eqb (getD s 0 0) fileVersion) Version (unless (rightLength s) Length peopled))
   by-version h =
       pick-both Judged
       (eqb (getD s 0 0) fileVersion)

@@ -1,5 +1,6 @@
--- The replay of a run of events, code and thread each: it stops at the first refused event, with the machine before that
--- event, or where no whole event is left. Assumes nothing.
+-- The replay of a run of events, code and thread each: it stops at the first refused event, with the machine before
+-- that event, or where no whole event is left.
+-- Assumes nothing.
 use Prim.Native.Nat.{ℕ, _+_, _*_}
 use mathlib.Core.List.{List, [], _∷_}
 use lib.ListN.{getD}
@@ -46,4 +47,5 @@ goesOn m (Accepted answer woken) later = after 1 later
 unfoldable pub replayOf : Machine → List ℕ → Replayed
 replayOf m [] = stoppedOf m 0 Ran
 replayOf m (odd ∷ []) = stoppedOf m 0 Ran
-replayOf m (code ∷ t ∷ s) = goesOn m (eventOf m code (thread t) .reply) (replayOf (eventOf m code (thread t) .machine) s)
+replayOf m (code ∷ t ∷ s) =
+    goesOn m (eventOf m code (thread t) .reply) (replayOf (eventOf m code (thread t) .machine) s)

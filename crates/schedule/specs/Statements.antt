@@ -39,7 +39,11 @@ pub record Beginning (m : Machine) (s : List ℕ) (k : ℕ) : Type 0 where
 -- the replay stops after k events: there is no other, or that one is refused
 pub data End (m : Machine) (s : List ℕ) (k : ℕ) : Type 0 where
   none-left : length s / eventWidth ≡ k → replayOf m s ≡ stoppedOf (stateAt m s k) k Ran → End m s k
-  refused : (refusal : Refusal) → k < length s / eventWidth → replyAt m s k ≡ Refused refusal → replayOf m s ≡ stoppedOf (stateAt m s k) k (Stopped refusal) → End m s k
+  refused : (refusal : Refusal)
+      → k < length s / eventWidth
+      → replyAt m s k ≡ Refused refusal
+      → replayOf m s ≡ stoppedOf (stateAt m s k) k (Stopped refusal)
+      → End m s k
 
 -- what a cursor sees where the replay stopped
 abbrev pub seenAt : List ℕ → ℕ → Stop → Seen

@@ -1,5 +1,6 @@
--- A whole file: checked, then replayed from a fresh machine of its threads. A refused file runs nothing, and hands back all
--- its bytes and a fresh machine of one thread. Assumes nothing.
+-- A whole file: checked, then replayed from a fresh machine of its threads. A refused file runs nothing, and hands back
+-- all its bytes and a fresh machine of one thread.
+-- Assumes nothing.
 use Prim.Native.Nat.{ℕ, _*_}
 use mathlib.Core.List.{List}
 use lib.ListN.{drop}

@@ -1,6 +1,7 @@
 // A whole file: checked, then replayed from a fresh machine of its threads. A refused file runs nothing.
 ghost use mathlib.Core.Path.{_≡_};
-ghost use Rattle.schedule.specs.Whole.{fileStopOf, fileRanOf, fileRefusedOf, fileReplayOf, fileRestBy, fileRestOf};
+ghost use Rattle.schedule.specs.Whole.{fileStopOf, fileRanOf, fileRefusedOf};
+ghost use Rattle.schedule.specs.Whole.{fileReplayOf, fileRestBy, fileRestOf};
 use crate::file::Checked;
 use crate::file::FileRefusal;
 use crate::file::check;

@@ -1,4 +1,5 @@
--- One thread's place, one node's prev, and whether a node is among others; all total. Assumes nothing.
+-- One thread's place, one node's prev, and whether a node is among others; all total.
+-- Assumes nothing.
 use Prim.Native.Nat.{ℕ, zero, suc}
 use mathlib.Core.Bool.{Bool, true, false}
 use mathlib.Core.List.{List}

@@ -1,4 +1,5 @@
--- Laws for the loops that look for a node: one visit more. Assumes nothing.
+-- Laws for the loops that look for a node: one visit more.
+-- Assumes nothing.
 use Prim.Native.Nat.{ℕ, zero, suc, _+_, _-_, _<_}
 use mathlib.Core.Bool.{Bool, false}
 use mathlib.Core.Path.{_≡_, refl, ap}
@@ -24,7 +25,9 @@ among-more k ns n =
     let e : suc k ≡ k + 1 = omega arith in
     ap (λ (i : ℕ). amongBelow i ns n) e
 
-pub met-none : (left : ℕ) (m : Machine) (n at : NodeNumber) (found : Bool) → left ≡ 0 → found ≡ metFrom left m n at found
+pub met-none : (left : ℕ) (m : Machine) (n at : NodeNumber) (found : Bool)
+    → left ≡ 0
+    → found ≡ metFrom left m n at found
 unfolding metFrom
 met-none zero m n at found e = refl
 met-none (suc left) m n at found e = absurd (suc-ne-zero left e)

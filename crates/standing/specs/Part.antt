@@ -1,4 +1,5 @@
--- What a thread at a place has to do with the queue: one table over the places. Assumes nothing.
+-- What a thread at a place has to do with the queue: one table over the places.
+-- Assumes nothing.
 use mathlib.Core.Bool.{Bool, true, false}
 use Rattle.word.specs.Flags.{toNode}
 use Rattle.word.specs.declared.flags.Word.{Word}
@@ -7,9 +8,10 @@ use Rattle.state.specs.declared.place.Who.the-variants.{Waiter, Leaver}
 use Rattle.state.specs.declared.place.Walk.{Walk}
 use Rattle.state.specs.declared.place.Walk.the-variants.{Queue, ReadUnlock, Downgrade}
 use Rattle.state.specs.declared.place.Place.{Place}
-use Rattle.state.specs.declared.place.Place.the-variants.{Idle, TryReadLoad, TryReadCas, TryWriteOr, ContendLoad, ContendCas, RegisterCas, CompletedLoad, Park, WalkTail, WalkNext, WalkPrev, WalkHead, QueueCas, SplitPrev, SplitStore, SplitCas, SplitRestore, TakeCas, WakePrev, WakeStore, ReadUnlockLoad, ReadUnlockCas, Subtract, WriteUnlockCas, ReleaseCas, DowngradeCas, DowngradeSlowCas}
+use Rattle.state.specs.declared.place.Place.the-variants as At
 use Rattle.standing.specs.declared.part.Part.{Part}
-use Rattle.standing.specs.declared.part.Part.the-variants.{Apart, Contending, Waiting, Owning, SettingAside, Walking, Reading, Completing, Releasing}
+use Rattle.standing.specs.declared.part.Part.the-variants.{Apart, Contending, Waiting, Owning, SettingAside}
+use Rattle.standing.specs.declared.part.Part.the-variants.{Walking, Reading, Completing, Releasing}
 
 -- a walk of unlock queue is the owner's; that of a downgrade goes over the queue that it took
 abbrev pub walkingOf : Walk → Word → Part
@@ -18,34 +20,34 @@ walkingOf ReadUnlock seen = Apart
 walkingOf Downgrade seen = Walking (toNode seen)
 
 abbrev pub partOf : Place → Part
-partOf Idle = Apart
-partOf (TryReadLoad _) = Apart
-partOf (TryReadCas _ _) = Apart
-partOf (TryWriteOr _) = Apart
-partOf (ContendLoad _ _) = Contending
-partOf (ContendCas _ _ _) = Contending
-partOf (RegisterCas _ _ _) = Contending
-partOf (CompletedLoad _) = Waiting
-partOf (Park _) = Waiting
-partOf (WalkTail walk seen _) = walkingOf walk seen
-partOf (WalkNext walk seen _) = walkingOf walk seen
-partOf (WalkPrev walk seen _ _) = walkingOf walk seen
-partOf (WalkHead walk seen _) = walkingOf walk seen
-partOf (QueueCas who _) = Owning who
-partOf (SplitPrev who _ _) = Owning who
-partOf (SplitStore who _ _ _) = Owning who
-partOf (SplitCas who _ tail) = SettingAside who tail
-partOf (SplitRestore who _ tail _) = SettingAside who tail
-partOf (TakeCas who _ _) = Owning who
-partOf (WakePrev who current) = Reading who current
-partOf (WakeStore who current prev) = Completing who current prev
-partOf ReadUnlockLoad = Apart
-partOf (ReadUnlockCas _) = Apart
-partOf (Subtract _ _) = Apart
-partOf WriteUnlockCas = Apart
-partOf (ReleaseCas _) = Releasing
-partOf DowngradeCas = Apart
-partOf (DowngradeSlowCas _) = Apart
+partOf At.Idle = Apart
+partOf (At.TryReadLoad _) = Apart
+partOf (At.TryReadCas _ _) = Apart
+partOf (At.TryWriteOr _) = Apart
+partOf (At.ContendLoad _ _) = Contending
+partOf (At.ContendCas _ _ _) = Contending
+partOf (At.RegisterCas _ _ _) = Contending
+partOf (At.CompletedLoad _) = Waiting
+partOf (At.Park _) = Waiting
+partOf (At.WalkTail walk seen _) = walkingOf walk seen
+partOf (At.WalkNext walk seen _) = walkingOf walk seen
+partOf (At.WalkPrev walk seen _ _) = walkingOf walk seen
+partOf (At.WalkHead walk seen _) = walkingOf walk seen
+partOf (At.QueueCas who _) = Owning who
+partOf (At.SplitPrev who _ _) = Owning who
+partOf (At.SplitStore who _ _ _) = Owning who
+partOf (At.SplitCas who _ tail) = SettingAside who tail
+partOf (At.SplitRestore who _ tail _) = SettingAside who tail
+partOf (At.TakeCas who _ _) = Owning who
+partOf (At.WakePrev who current) = Reading who current
+partOf (At.WakeStore who current prev) = Completing who current prev
+partOf At.ReadUnlockLoad = Apart
+partOf (At.ReadUnlockCas _) = Apart
+partOf (At.Subtract _ _) = Apart
+partOf At.WriteUnlockCas = Apart
+partOf (At.ReleaseCas _) = Releasing
+partOf At.DowngradeCas = Apart
+partOf (At.DowngradeSlowCas _) = Apart
 
 abbrev pub waiterOf : Who → Bool
 waiterOf (Waiter _) = true

@@ -1,4 +1,5 @@
--- Whose steps have to come before a queued waiter is woken. Assumes nothing.
+-- Whose steps have to come before a queued waiter is woken.
+-- Assumes nothing.
 use Prim.Native.Nat.{ℕ}
 use mathlib.Core.Bool.{Bool, true, false, not}
 use lib.Dec.{ltb}
@@ -14,7 +15,8 @@ use Rattle.state.specs.declared.machine.Machine.{Machine}
 use Rattle.standing.specs.Look.{completedOf}
 use Rattle.standing.specs.Stands.{partAt}
 use Rattle.standing.specs.declared.part.Part.{Part}
-use Rattle.standing.specs.declared.part.Part.the-variants.{Apart, Contending, Waiting, Owning, SettingAside, Walking, Reading, Completing, Releasing}
+use Rattle.standing.specs.declared.part.Part.the-variants.{Apart, Contending, Waiting, Owning, SettingAside}
+use Rattle.standing.specs.declared.part.Part.the-variants.{Walking, Reading, Completing, Releasing}
 
 -- nothing where there is no such thread
 abbrev pub holdingOf : Machine → ℕ → Holding

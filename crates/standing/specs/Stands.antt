@@ -1,5 +1,6 @@
--- Where a thread's node stands, in document 01's words: in the queue (the waiter listing), set aside by the owner of the
--- queue lock, or in one waker's list. Assumes nothing.
+-- Where a thread's node stands, in document 01's words: in the queue (the waiter listing), set aside by the owner of
+-- the queue lock, or in one waker's list.
+-- Assumes nothing.
 use Prim.Native.Nat.{ℕ, zero, suc}
 use mathlib.Core.Bool.{Bool, false}
 use Rattle.word.specs.Base.{pick}
@@ -11,9 +12,11 @@ use Rattle.listing.specs.Listing.{fromHeadOf, waitersBy, waitersOf}
 use Rattle.standing.specs.Part.{partOf, registeredOf}
 use Rattle.standing.specs.Look.{placeOf, completedOf, sameOr, among, metFrom}
 use Rattle.standing.specs.declared.part.Part.{Part}
-use Rattle.standing.specs.declared.part.Part.the-variants.{Apart, Contending, Waiting, Owning, SettingAside, Walking, Reading, Completing, Releasing}
+use Rattle.standing.specs.declared.part.Part.the-variants.{Apart, Contending, Waiting, Owning, SettingAside}
+use Rattle.standing.specs.declared.part.Part.the-variants.{Walking, Reading, Completing, Releasing}
 use Rattle.standing.specs.declared.stands.Standing.{Standing}
-use Rattle.standing.specs.declared.stands.Standing.the-variants.{NotWaiting, Completed, InQueue, SetAside, InList, Nowhere}
+use Rattle.standing.specs.declared.stands.Standing.the-variants.{NotWaiting, Completed, InQueue}
+use Rattle.standing.specs.declared.stands.Standing.the-variants.{SetAside, InList, Nowhere}
 
 -- set aside: from the store of prev in the head until the compare succeeds or the old tail is restored
 abbrev pub asideIn : Part → NodeNumber → Bool
@@ -44,7 +47,8 @@ partAt m k = partOf (placeOf m k)
 
 -- by thread k, which has that part; else as before
 abbrev pub heldBy : Machine → ℕ → Part → NodeNumber → Standing → Standing
-heldBy m k part n before = pick (asideIn part n) (SetAside (thread k)) (pick (inListOf m part n) (InList (thread k)) before)
+heldBy m k part n before =
+    pick (asideIn part n) (SetAside (thread k)) (pick (inListOf m part n) (InList (thread k)) before)
 
 abbrev pub heldAt : Machine → ℕ → NodeNumber → Standing → Standing
 heldAt m k n before = heldBy m k (partAt m k) n before

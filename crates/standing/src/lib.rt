@@ -1,4 +1,5 @@
-// Where a waiter stands, in the queue, set aside or in a waker's list, and whose turn it is before a queued one is woken.
+// Where a waiter stands, in the queue, set aside or in a waker's list,
+// and whose turn it is before a queued one is woken.
 //
 //     part::part_at(place)    what a thread at a place has to do with the queue
 //     stands::stands(m, t)    where thread t's node stands

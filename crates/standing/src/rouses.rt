@@ -105,8 +105,8 @@ fn hands_off(word: Word) -> bool
     false
 }
 
-// With hands off: those that hold or leave. Else with the queue locked: its owner. Else those that will look at the lock
-// again or wake one that will.
+// With hands off: those that hold or leave. Else with the queue locked: its owner. Else those that will look at the
+// lock again or wake one that will.
 fn rouses_by(m: Machine, t: ThreadNumber, part: Part) -> bool
     ensures { λ r. ⌜ r ≡ rousesBy m t part ⌝ }
 {

@@ -1,6 +1,7 @@
 // Where a thread's node stands: in the queue, set aside, in a waker's list, completed, or nowhere as it does not wait.
 ghost use mathlib.Core.Path.{_≡_};
-ghost use Rattle.standing.specs.Stands.{asideIn, inListOf, heldBy, heldAt, heldBelow, inQueueOf, waitingAt, waitingOf, standingBy, standingOf};
+ghost use Rattle.standing.specs.Stands.{asideIn, inListOf, heldBy, heldAt, heldBelow, inQueueOf};
+ghost use Rattle.standing.specs.Stands.{waitingAt, waitingOf, standingBy, standingOf};
 use crate::look::completed_of;
 use crate::look::listed;
 use crate::look::met;

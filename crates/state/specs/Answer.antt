@@ -1,11 +1,13 @@
--- Document 01's number for each refusal and its word for each answer. Assumes nothing.
+-- Document 01's number for each refusal and its word for each answer.
+-- Assumes nothing.
 use Prim.Native.Nat.{ℕ, _-_}
 use mathlib.Core.List.{List, [], _∷_, _++_}
 use lib.ListN.{length, replicate}
 use Rattle.state.specs.declared.answer.Answer.{Answer}
 use Rattle.state.specs.declared.answer.Answer.the-variants.{Begun, Went, Done, Yes, No}
 use Rattle.state.specs.declared.answer.Refusal.{Refusal}
-use Rattle.state.specs.declared.answer.Refusal.the-variants.{UnknownCode, NoThread, InsideCall, WrongHolding, NotInCall, NoToken, CannotFail, Damaged}
+use Rattle.state.specs.declared.answer.Refusal.the-variants.{UnknownCode, NoThread, InsideCall, WrongHolding}
+use Rattle.state.specs.declared.answer.Refusal.the-variants.{NotInCall, NoToken, CannotFail, Damaged}
 use Rattle.state.specs.declared.answer.Text.{Text}
 
 abbrev pub refusalNumber : Refusal → ℕ
@@ -28,4 +30,7 @@ answerWord No = 110 ∷ 111 ∷ []
 
 -- the word, and zeros up to five bytes
 abbrev pub answerText : Answer → Text
-answerText a = record { bytes = answerWord a ++ replicate (5 - length (answerWord a)) 0; length = length (answerWord a) }
+answerText a = record {
+  bytes = answerWord a ++ replicate (5 - length (answerWord a)) 0;
+  length = length (answerWord a);
+}

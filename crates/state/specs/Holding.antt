@@ -1,4 +1,5 @@
--- What a thread holds, as two numbers, and what a grant, a release and a downgrade make of it. Assumes nothing.
+-- What a thread holds, as two numbers, and what a grant, a release and a downgrade make of it.
+-- Assumes nothing.
 use Prim.Native.Nat.{ℕ}
 use Rattle.state.specs.declared.holding.Holding.{Holding}
 use Rattle.state.specs.declared.holding.Holding.the-variants.{Nothing, Read, Write}

@@ -1,4 +1,5 @@
--- The machine and its limit; a fresh one; one handed back with a refusal. Assumes nothing.
+-- The machine and its limit; a fresh one; one handed back with a refusal.
+-- Assumes nothing.
 use Prim.Native.Nat.{ℕ}
 use mathlib.Core.Bool.{Bool, false}
 use mathlib.Core.Path.{_≡_}

@@ -1,4 +1,5 @@
--- A waiter's node: blank, filled for registering, and with one field stored. Assumes nothing.
+-- A waiter's node: blank, filled for registering, and with one field stored.
+-- Assumes nothing.
 use mathlib.Core.Bool.{Bool, true, false}
 use Rattle.word.specs.Base.{pick}
 use Rattle.word.specs.Number.{none, nodeOf}
@@ -11,7 +12,8 @@ use Rattle.state.specs.declared.node.Node.{Node}
 abbrev pub blankNode : Node
 blankNode = record { next = word 0; prev = none; tail = none; writer = false; completed = false }
 
--- writer mark by the call, completed clear, prev none, next = word without flags; if unqueued, tail = itself; if queued, tail none
+-- writer mark by the call, completed clear, prev none, next = word without flags; if unqueued,
+-- tail = itself; if queued, tail none
 abbrev pub filledOf : ThreadNumber → Bool → Word → Node
 filledOf me writer seen =
     record {

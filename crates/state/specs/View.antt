@@ -1,4 +1,5 @@
--- What a step does with what it may look at: a change of the word, of one node, of the thread's own record, and a wake. Assumes nothing.
+-- What a step does with what it may look at: a change of the word, of one node, of the thread's own record, and a wake.
+-- Assumes nothing.
 use mathlib.Core.Bool.{Bool, false}
 use lib.Dec.{eqb}
 use Rattle.word.specs.Base.{pick}

@@ -1,6 +1,7 @@
 // What a thread holds: read through two numbers, and changed by grant, release and downgrade alone.
 ghost use mathlib.Core.Path.{_≡_};
-ghost use Rattle.state.specs.Holding.{readsOf, writesOf, grantedRead, grantedWrite, releasedRead, releasedWrite, downgradedTo};
+ghost use Rattle.state.specs.Holding.{readsOf, writesOf, grantedRead, grantedWrite};
+ghost use Rattle.state.specs.Holding.{releasedRead, releasedWrite, downgradedTo};
 
 pub enum Holding {
     Nothing,

@@ -1,6 +1,7 @@
 // What a step may look at, and what it did.
 ghost use mathlib.Core.Path.{_≡_};
-ghost use Rattle.state.specs.View.{agreesOf, at, end, granted, afterQueue, walkFrom, changedOf, stays, writes, links, subtracts, completes, parks};
+ghost use Rattle.state.specs.View.{agreesOf, at, end, granted, afterQueue, walkFrom, changedOf};
+ghost use Rattle.state.specs.View.{stays, writes, links, subtracts, completes, parks};
 use crate::answer::Answer;
 use crate::answer::Refusal;
 use crate::holding::Holding;

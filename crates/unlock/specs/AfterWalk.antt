@@ -1,4 +1,5 @@
--- Find tail's last access, the store of the tail in the head, with the local code that follows it. Assumes nothing.
+-- Find tail's last access, the store of the tail in the head, with the local code that follows it.
+-- Assumes nothing.
 use Rattle.word.specs.Base.{pick}
 use Rattle.word.specs.Flags.{locked, downgraded}
 use Rattle.word.specs.declared.flags.Word.{Word}
@@ -18,7 +19,8 @@ use Rattle.state.specs.declared.view.View.{View}
 use Rattle.state.specs.declared.view.Stepped.{Stepped}
 use Rattle.state.specs.declared.view.Stepped.the-variants.{Refused}
 
--- the tail's writer mark is read: without DOWNGRADED and with a writer tail, load its prev; in all other cases weak compare to 17 or 0
+-- the tail's writer mark is read: without DOWNGRADED and with a writer tail, load its prev;
+-- in all other cases weak compare to 17 or 0
 abbrev pub markedBy : View → Node → Who → Word → NodeNumber → Mark → Stepped
 markedBy v n who seen tail Missing = Refused Damaged
 markedBy v n who seen tail Reader = links v n (at (TakeCas who seen tail))

@@ -1,4 +1,5 @@
--- Unlock queue after its walk: weak compare clearing QUEUE_LOCKED, the split and its restore, weak compare to 17 or 0. Assumes nothing.
+-- Unlock queue after its walk: weak compare clearing QUEUE_LOCKED, the split and its restore, weak compare to 17 or 0.
+-- Assumes nothing.
 use Rattle.word.specs.Base.{pick}
 use Rattle.word.specs.Number.{none, isNone}
 use Rattle.word.specs.Flags.{clearQueueLocked}
@@ -9,7 +10,8 @@ use Rattle.state.specs.Node.{withTail}
 use Rattle.state.specs.View.{at, afterQueue, walkFrom, agreesOf, stays, writes, links}
 use Rattle.state.specs.declared.place.Who.{Who}
 use Rattle.state.specs.declared.place.Walk.the-variants.{Queue}
-use Rattle.state.specs.declared.place.Place.the-variants.{SplitStore, SplitCas, SplitRestore, TakeCas, WakePrev, WakeStore}
+use Rattle.state.specs.declared.place.Place.the-variants.{SplitStore, SplitCas, SplitRestore}
+use Rattle.state.specs.declared.place.Place.the-variants.{TakeCas, WakePrev, WakeStore}
 use Rattle.state.specs.declared.view.View.{View}
 use Rattle.state.specs.declared.view.Stepped.{Stepped}
 

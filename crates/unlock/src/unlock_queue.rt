@@ -1,6 +1,7 @@
 // unlock_queue after its walk: release the queue lock, split the tail off, or take the whole queue.
 ghost use mathlib.Core.Path.{_≡_};
-ghost use Rattle.unlock.specs.UnlockQueue.{walkAgain, queueCasOf, splitPrevOf, splitStoreOf, splitCasOf, splitRestoreOf, takeCasOf};
+ghost use Rattle.unlock.specs.UnlockQueue.{walkAgain, queueCasOf, splitPrevOf, splitStoreOf};
+ghost use Rattle.unlock.specs.UnlockQueue.{splitCasOf, splitRestoreOf, takeCasOf};
 use state::Next;
 use state::Place;
 use state::Stepped;

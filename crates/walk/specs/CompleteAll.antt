@@ -1,4 +1,5 @@
--- Complete all: from the tail, load prev, complete, go to prev, until none. Assumes nothing.
+-- Complete all: from the tail, load prev, complete, go to prev, until none.
+-- Assumes nothing.
 use Rattle.word.specs.Base.{pick}
 use Rattle.word.specs.Number.{isNone, ownerOf}
 use Rattle.word.specs.declared.number.NodeNumber.{NodeNumber}

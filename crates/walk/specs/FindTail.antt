@@ -1,4 +1,5 @@
--- Find tail, from a head: load tail; if none, load next, store that node's prev, and go on from there. Assumes nothing.
+-- Find tail, from a head: load tail; if none, load next, store that node's prev, and go on from there.
+-- Assumes nothing.
 use Rattle.word.specs.Base.{pick}
 use Rattle.word.specs.Number.{isNone}
 use Rattle.word.specs.Flags.{toNode}

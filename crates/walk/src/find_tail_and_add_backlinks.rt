@@ -1,5 +1,5 @@
-// From a head along next to the first node whose tail is set, adding prev on the way. The store of that tail in the head,
-// which is the walk's last access, is with what the walk was for (crate unlock, after_walk).
+// From a head along next to the first node whose tail is set, adding prev on the way. The store of that tail in the
+// head, which is the walk's last access, is with what the walk was for (crate unlock, after_walk).
 ghost use mathlib.Core.Path.{_≡_};
 ghost use Rattle.walk.specs.FindTail.{walkTailOf, walkNextOf, walkPrevOf};
 use state::Next;

@@ -1,4 +1,5 @@
--- A choice by a test: what the step rules are written with. Assumes nothing.
+-- A choice by a test: what the step rules are written with.
+-- Assumes nothing.
 use mathlib.Core.Bool.{Bool, true, false}
 
 -- the first where the test holds, else the second

@@ -7,7 +7,9 @@
 -- Assumes nothing.
 use Prim.Native.Nat.{ℕ, _+_, _-_, _*_, _/_, _%_, _≤_, _<_}
 use mathlib.Core.Path.{_≡_, sym, ap, _∙_}
-use native.Mathlib.Nat.{one-mul, mul-assoc, mul-comm, div-lt-iff-lt-mul, le-div-iff-mul-le, add-div-right, add-mod-right, div-eq-sub-div, mod-eq-sub-mod, mod-add-div, div-div-eq-div-mul, add-mul-div-left}
+use native.Mathlib.Nat.{one-mul, mul-assoc, mul-comm, div-lt-iff-lt-mul}
+use native.Mathlib.Nat.{le-div-iff-mul-le, add-div-right, add-mod-right, div-eq-sub-div}
+use native.Mathlib.Nat.{mod-eq-sub-mod, mod-add-div, div-div-eq-div-mul, add-mul-div-left}
 use native.Mathlib.Omega.{arith}
 
 pub record But (f n m : ℕ) : Type 0 where
@@ -50,7 +52,8 @@ higher f g k n m is but = rw (← is) (simp (← div-div-eq-div-mul, but .above)
 low : (f g k n : ℕ) → g * 2 * k ≡ f → 0 < g → n / g % 2 ≡ n % f / g % 2
 low f g k n is some =
     let whole : n % f + g * (2 * (k * (n / f))) ≡ n = simp (← mul-assoc, is) (mod-add-div n f) in
-    let parts : n / g ≡ n % f / g + 2 * (k * (n / f)) = rw whole at (add-mul-div-left (n % f) (2 * (k * (n / f))) some) in
+    let parts : n / g ≡ n % f / g + 2 * (k * (n / f)) =
+    rw whole at (add-mul-div-left (n % f) (2 * (k * (n / f))) some) in
     omega arith
 
 pub lower : (f g k n m : ℕ) → g * 2 * k ≡ f → 0 < g → But f n m → n / g % 2 ≡ m / g % 2

@@ -17,7 +17,10 @@ pub pick-no : {A : Type 0} (b : Bool) (r x y : A) → b ≡ false → r ≡ y �
 pick-no true r x y e q = absurd (subst (λ (t : Bool). lib.Dec.T t) e tt)
 pick-no false r x y e q = q
 
-pub pick-both : {A : Type 0} (P : A → Type 0) (b : Bool) (x y : A) → (b ≡ true → P x) → (b ≡ false → P y) → P (pick b x y)
+pub pick-both : {A : Type 0} (P : A → Type 0) (b : Bool) (x y : A)
+    → (b ≡ true → P x)
+    → (b ≡ false → P y)
+    → P (pick b x y)
 pick-both P true x y p q = p refl
 pick-both P false x y p q = q refl
 

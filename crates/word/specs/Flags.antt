@@ -1,4 +1,5 @@
--- The word: four flags, and 16 times a number. One law for each flag's test, setting and clearing. Assumes nothing.
+-- The word: four flags, and 16 times a number. One law for each flag's test, setting and clearing.
+-- Assumes nothing.
 use Prim.Native.Nat.{ℕ, _+_, _-_, _*_, _/_, _%_}
 use mathlib.Core.Bool.{Bool}
 use lib.Dec.{eqb}

@@ -2,7 +2,8 @@
 --     flag, apart              a flag of the word, and two that are not one
 --     flag-least, flag-room    a word with a flag is at least the flag; one without has room for it
 --     set-has, clear-has       a flag that was set is set, one that was cleared is clear
---     set-keeps, clear-keeps   every other flag stays, as `set-keeps LOCKED QUEUED refl w : queued (setLocked w) ≡ queued w`
+--     set-keeps, clear-keeps   every other flag stays, as
+--                              `set-keeps LOCKED QUEUED refl w : queued (setLocked w) ≡ queued w`
 --     set-node, clear-node     and so does the number
 --     read-lock-.., write-lock-.., read-unlock-.., registered-.., taken-..    what the rule of that name does
 -- Assumes nothing.
@@ -18,14 +19,17 @@ use Rattle.word.specs.Base.{pick}
 use Rattle.word.specs.Bits.{at-least, room, on, off, But, added, taken-off, higher, lower}
 use Rattle.word.specs.Cases.{pick-no, pick-both, pick-first, pick-second}
 use Rattle.word.specs.Number.{node, nodeOf}
-use Rattle.word.specs.Flags.{word, LOCKED, QUEUED, QUEUE-LOCKED, DOWNGRADED, SINGLE, has, setFlag, clearFlag, toNode, locked, queued, queueLocked, downgraded, setLocked, clearLocked, clearDowngraded}
+use Rattle.word.specs.Flags.{word, LOCKED, QUEUED, QUEUE-LOCKED, DOWNGRADED, SINGLE, has}
+use Rattle.word.specs.Flags.{setFlag, clearFlag, toNode, locked, queued, queueLocked}
+use Rattle.word.specs.Flags.{downgraded, setLocked, clearLocked, clearDowngraded}
 use Rattle.word.specs.Rules.{readLockOf, writeLockOf, readUnlockOf, registeredOf, takenOf, fewer}
 use Rattle.word.specs.declared.number.ThreadNumber.{ThreadNumber}
 use Rattle.word.specs.declared.flags.Word.{Word}
 use Rattle.word.specs.declared.rules.WriteLocked.the-variants.{To as WriteTo, Refused as WriteRefused}
 use Rattle.word.specs.declared.rules.ReadLocked.the-variants.{To as ReadTo, Refused as ReadRefused}
 use Rattle.word.specs.declared.rules.ReadUnlocked.{ReadUnlocked}
-use Rattle.word.specs.declared.rules.ReadUnlocked.the-variants.{To as UnlockTo, Contended, Refused as UnlockRefused}
+use Rattle.word.specs.declared.rules.ReadUnlocked.the-variants.{To as UnlockTo, Contended}
+use Rattle.word.specs.declared.rules.ReadUnlocked.the-variants.{Refused as UnlockRefused}
 
 -- does d divide n
 abbrev divides : ℕ → ℕ → Bool
@@ -59,11 +63,13 @@ flag-room f t w h b =
 module _ (P : Word → Type 0) (f : ℕ) (w : Word) where
   -- a word with a flag set: as it was, or the flag added
   set-cases : (w .0 / f % 2 ≡ 1 → P w) → ((w .0 / f % 2 ≡ 1 → ⊥) → P (word (w .0 + f))) → P (setFlag f w)
-  set-cases set clear = pick-both P (has f w) w (word (w .0 + f)) (λ h. set (eqb-true _ 1 h)) (λ h. clear (eqb-false _ 1 h))
+  set-cases set clear =
+      pick-both P (has f w) w (word (w .0 + f)) (λ h. set (eqb-true _ 1 h)) (λ h. clear (eqb-false _ 1 h))
 
   -- a word with a flag cleared: the flag taken off, or as it was
   clear-cases : (w .0 / f % 2 ≡ 1 → P (word (w .0 - f))) → ((w .0 / f % 2 ≡ 1 → ⊥) → P w) → P (clearFlag f w)
-  clear-cases set clear = pick-both P (has f w) (word (w .0 - f)) w (λ h. set (eqb-true _ 1 h)) (λ h. clear (eqb-false _ 1 h))
+  clear-cases set clear =
+      pick-both P (has f w) (word (w .0 - f)) w (λ h. set (eqb-true _ 1 h)) (λ h. clear (eqb-false _ 1 h))
 
 module _ (f : ℕ) (t : flag f ≡ true) (w : Word) where
   -- a flag that was set is set
@@ -76,15 +82,20 @@ module _ (f : ℕ) (t : flag f ≡ true) (w : Word) where
 
   -- setting a flag, and clearing it, changes nothing but the flag
   set-but : But f (setFlag f w .0) (w .0)
-  set-but = set-cases (λ x. But f (x .0) (w .0)) f w (λ _. record { above = refl; below = refl }) (added f (w .0) (some f t))
+  set-but =
+      set-cases (λ x. But f (x .0) (w .0)) f w (λ _. record { above = refl; below = refl }) (added f (w .0) (some f t))
 
   clear-but : But f (clearFlag f w .0) (w .0)
-  clear-but = clear-cases (λ x. But f (x .0) (w .0)) f w (taken-off f (w .0) (some f t)) (λ _. record { above = refl; below = refl })
+  clear-but =
+      clear-cases (λ x. But f (x .0) (w .0)) f w (taken-off f (w .0) (some f t))
+      (λ _. record { above = refl; below = refl })
 
   -- clearing a flag that is set makes the word less
   clear-less : has f w ≡ true → clearFlag f w .0 < w .0
   clear-less h =
-      clear-cases (λ x. x .0 < w .0) f w (λ _. omega (arith, some f t, flag-least f t w h)) (λ clear. absurd (clear (eqb-true _ 1 h)))
+      clear-cases (λ x. x .0 < w .0) f w
+      (λ _. omega (arith, some f t, flag-least f t w h))
+      (λ clear. absurd (clear (eqb-true _ 1 h)))
 
 either : (a b : Bool) → (a || b) ≡ true → (a ≡ true) ⊎ (b ≡ true)
 either true b e = inl refl
@@ -97,8 +108,10 @@ but-keeps f g t x w but =
     let second = and-eq-true-iff (flag g) (divides (f * 2) g || divides (g * 2) f) .0 (flags .1) in
     ap (λ (r : ℕ). eqb r 1)
     (⊎-elim
-    (λ (above : divides (f * 2) g ≡ true). ap (λ (q : ℕ). q % 2) (higher f g (g / (f * 2)) (x .0) (w .0) (divided (f * 2) g above) but))
-    (λ (below : divides (g * 2) f ≡ true). lower f g (f / (g * 2)) (x .0) (w .0) (divided (g * 2) f below) (some g (second .0)) but)
+    (λ (above : divides (f * 2) g ≡ true). ap (λ (q : ℕ). q % 2)
+    (higher f g (g / (f * 2)) (x .0) (w .0) (divided (f * 2) g above) but))
+    (λ (below : divides (g * 2) f ≡ true). lower f g (f / (g * 2)) (x .0) (w .0) (divided (g * 2) f below)
+    (some g (second .0)) but)
     (either (divides (f * 2) g) (divides (g * 2) f) (second .1)))
 
 -- and the same number
@@ -196,7 +209,9 @@ module _ (w x : Word) where
       rw is (fewer-less w (ltb-false (w .0) (SINGLE + LOCKED) (b .0)))
 
   pub read-unlock-less : readUnlockOf w ≡ UnlockTo x → x .0 < w .0
-  read-unlock-less e = pick-both (λ (r : ReadUnlocked). r ≡ UnlockTo x → x .0 < w .0) (queued w) _ _ (λ _. retracted-less) (λ _. left-less) e
+  read-unlock-less e =
+      pick-both (λ (r : ReadUnlocked). r ≡ UnlockTo x → x .0 < w .0) (queued w) _ _
+      (λ _. retracted-less) (λ _. left-less) e
 
 -- a flag that is kept or left out, as a multiple
 bit : Bool → ℕ

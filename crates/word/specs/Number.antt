@@ -1,4 +1,5 @@
--- Thread and node numbers: thread t owns node t + 1, and node 0 is none. Assumes nothing.
+-- Thread and node numbers: thread t owns node t + 1, and node 0 is none.
+-- Assumes nothing.
 use Prim.Native.Nat.{ℕ, _+_, _-_}
 use mathlib.Core.Bool.{Bool}
 use lib.Dec.{ltb, eqb}

@@ -1,9 +1,11 @@
--- What a word becomes, in document 01's order: write_lock, read_lock, registering, taking a queue whole, read_unlock. Assumes nothing.
+-- What a word becomes, in document 01's order: write_lock, read_lock, registering, taking a queue whole, read_unlock.
+-- Assumes nothing.
 use Prim.Native.Nat.{_+_, _-_, _*_, _^_}
 use lib.Dec.{leb, ltb, eqb}
 use Rattle.word.specs.Base.{pick}
 use Rattle.word.specs.Number.{nodeOf}
-use Rattle.word.specs.Flags.{word, LOCKED, QUEUED, QUEUE-LOCKED, DOWNGRADED, SINGLE, locked, queued, downgraded, setLocked, clearLocked, clearDowngraded}
+use Rattle.word.specs.Flags.{word, LOCKED, QUEUED, QUEUE-LOCKED, DOWNGRADED, SINGLE, locked}
+use Rattle.word.specs.Flags.{queued, downgraded, setLocked, clearLocked, clearDowngraded}
 use Rattle.word.specs.declared.number.ThreadNumber.{ThreadNumber}
 use Rattle.word.specs.declared.flags.Word.{Word}
 use Rattle.word.specs.declared.rules.WriteLocked.{WriteLocked}
@@ -11,7 +13,8 @@ use Rattle.word.specs.declared.rules.WriteLocked.the-variants.{To as Wri
 use Rattle.word.specs.declared.rules.ReadLocked.{ReadLocked}
 use Rattle.word.specs.declared.rules.ReadLocked.the-variants.{To as ReadTo, Refused as ReadRefused}
 use Rattle.word.specs.declared.rules.ReadUnlocked.{ReadUnlocked}
-use Rattle.word.specs.declared.rules.ReadUnlocked.the-variants.{To as UnlockTo, Contended, Refused as UnlockRefused}
+use Rattle.word.specs.declared.rules.ReadUnlocked.the-variants.{To as UnlockTo, Contended}
+use Rattle.word.specs.declared.rules.ReadUnlocked.the-variants.{Refused as UnlockRefused}
 
 -- refuses if LOCKED is set, else sets it
 abbrev pub writeLockOf : Word → WriteLocked
@@ -41,7 +44,8 @@ takenOf w = pick (downgraded w) (word (SINGLE + LOCKED)) (word 0)
 abbrev pub fewer : Word → Word
 fewer w = pick (eqb (w .0 - (SINGLE + LOCKED)) 0) (word 0) (setLocked (word (w .0 - (SINGLE + LOCKED))))
 
--- QUEUED clear: one reader fewer, a word below 17 being refused; QUEUED and DOWNGRADED: DOWNGRADED and LOCKED cleared; else the count stands in the oldest waiter
+-- QUEUED clear: one reader fewer, a word below 17 being refused; QUEUED and DOWNGRADED: DOWNGRADED and LOCKED cleared;
+-- else the count stands in the oldest waiter
 abbrev pub readUnlockOf : Word → ReadUnlocked
 readUnlockOf w =
     pick (queued w)

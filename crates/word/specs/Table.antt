@@ -14,9 +14,11 @@ use Rattle.word.specs.declared.rules.WriteLocked.the-variants.{To as Wri
 use Rattle.word.specs.declared.rules.ReadLocked.{ReadLocked}
 use Rattle.word.specs.declared.rules.ReadLocked.the-variants.{To as ReadTo, Refused as ReadRefused}
 use Rattle.word.specs.declared.rules.ReadUnlocked.{ReadUnlocked}
-use Rattle.word.specs.declared.rules.ReadUnlocked.the-variants.{To as UnlockTo, Contended, Refused as UnlockRefused}
+use Rattle.word.specs.declared.rules.ReadUnlocked.the-variants.{To as UnlockTo, Contended}
+use Rattle.word.specs.declared.rules.ReadUnlocked.the-variants.{Refused as UnlockRefused}
 
--- an answer in the document's words: the word that comes of it, refused, a refusal's number, or left to the oldest waiter
+-- an answer in the document's words: the word that comes of it, refused, a refusal's number,
+-- or left to the oldest waiter
 pub data Outcome : Type 0 where
   becomes : ℕ → Outcome
   refused : Outcome
@@ -109,7 +111,8 @@ row-rule : (r : Row) → row-holds r ≡ true → ruled r ≡ said r
 row-rule r t =
     let both = and-eq-true-iff (eqb (kind (ruled r)) (kind (said r))) (eqb (value (ruled r)) (value (said r))) .0 t in
     sym (outcome-back (ruled r))
-    ∙ ap₂ outcome (eqb-true (kind (ruled r)) (kind (said r)) (both .0)) (eqb-true (value (ruled r)) (value (said r)) (both .1))
+    ∙ ap₂ outcome (eqb-true (kind (ruled r)) (kind (said r)) (both .0))
+    (eqb-true (value (ruled r)) (value (said r)) (both .1))
     ∙ outcome-back (said r)
 
 rows-rule : (rows : List Row) → all-hold rows ≡ true → (r : Row) → List·Memᴰ r rows → ruled r ≡ said r

@@ -1,6 +1,8 @@
 // The word's flags: tests, and the changes that the step rules name.
 ghost use mathlib.Core.Path.{_≡_};
-ghost use Rattle.word.specs.Flags.{locked, queued, queueLocked, downgraded, setLocked, clearLocked, setQueueLocked, clearQueueLocked, setDowngraded, clearDowngraded, withoutFlags, toNode};
+ghost use Rattle.word.specs.Flags.{locked, queued, queueLocked, downgraded, setLocked};
+ghost use Rattle.word.specs.Flags.{clearLocked, setQueueLocked, clearQueueLocked};
+ghost use Rattle.word.specs.Flags.{setDowngraded, clearDowngraded, withoutFlags, toNode};
 use crate::number::NodeNumber;
 
 pub struct Word(pub u64);

@@ -1,4 +1,5 @@
-// What a word becomes: queue.rs's write_lock and read_lock, read_unlock's update, and the words that the compares write.
+// What a word becomes: queue.rs's write_lock and read_lock, read_unlock's update,
+// and the words that the compares write.
 ghost use mathlib.Core.Path.{_≡_};
 ghost use Prim.Native.Nat.{_≤_};
 ghost use Rattle.word.specs.Base.{pick};

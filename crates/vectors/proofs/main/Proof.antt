@@ -1,4 +1,6 @@
--- `vectors::main` is safe and ends. Nothing has to hold from turn to turn; the measure is the number of turns that are left. Assumes nothing.
+-- `vectors::main` is safe and ends. Nothing has to hold from turn to turn;
+-- the measure is the number of turns that are left.
+-- Assumes nothing.
 use native.Mathlib.Omega.{arith}
 use borrow.Author.Needs.{needs}
 use Rattle.vectors.proofs.main.Statement.{statement}

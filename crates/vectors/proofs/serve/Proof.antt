@@ -1,4 +1,5 @@
--- `vectors::serve` is safe and ends. The loop keeps the buffer's length; the measure bounds the commands that are left. Assumes nothing.
+-- `vectors::serve` is safe and ends. The loop keeps the buffer's length; the measure bounds the commands that are left.
+-- Assumes nothing.
 use mathlib.Core.Path.{_≡_, refl}
 use Prim.Native.Nat.{_-_}
 use native.Mathlib.Omega.{arith}

@@ -1,4 +1,5 @@
--- `vectors::within` answers a number of the buffer's bytes. Assumes nothing.
+-- `vectors::within` answers a number of the buffer's bytes.
+-- Assumes nothing.
 use mathlib.Core.Path.{sym}
 use native.Mathlib.Nat.{le-refl, le-of-lt}
 use lib.ListN.{length}

@@ -1,4 +1,5 @@
--- `acquire::lock_contended::after_register` meets its contract: each answer by the tests that led to it. Assumes nothing.
+-- `acquire::lock_contended::after_register` meets its contract: each answer by the tests that led to it.
+-- Assumes nothing.
 use borrow.Author.Needs.{needs}
 use mathlib.Core.Path.{sym}
 use Rattle.acquire.proofs.lock_contended.after_register.Statement.{statement}
@@ -14,13 +15,31 @@ at-requires : tie.Need-at-requires
 at-requires c κs = search needs
 
 returns : tie.Need-returns
-returns c = let h1 = c .before .if2 .taken in let h2 = c .before .before .before .if1 .taken in simp (c .at .ensures, sym (c .before .before .queue-locked .ensures), sym (c .before .before .before .before .queued .ensures), h1, h2)
+returns c =
+    let h1 = c .before .if2 .taken in
+    let h2 = c .before .before .before .if1 .taken in
+    simp (
+      c .at .ensures,
+      sym (c .before .before .queue-locked .ensures),
+      sym (c .before .before .before .before .queued .ensures),
+      h1,
+      h2,
+    )
 
 walk-from-requires : tie.Need-walk-from-requires
 walk-from-requires c κs = search needs
 
 returns-2 : tie.Need-returns-2
-returns-2 c = let h1 = c .before .if2 .left in let h2 = c .before .before .before .if1 .taken in simp (c .walk-from .ensures, sym (c .before .before .queue-locked .ensures), sym (c .before .before .before .before .queued .ensures), h1, h2)
+returns-2 c =
+    let h1 = c .before .if2 .left in
+    let h2 = c .before .before .before .if1 .taken in
+    simp (
+      c .walk-from .ensures,
+      sym (c .before .before .queue-locked .ensures),
+      sym (c .before .before .before .before .queued .ensures),
+      h1,
+      h2,
+    )
 
 at-requires-2 : tie.Need-at-requires-2
 at-requires-2 c κs = search needs

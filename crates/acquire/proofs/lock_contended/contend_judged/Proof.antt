@@ -1,4 +1,5 @@
--- `acquire::lock_contended::contend_judged` meets its contract: each arm by the lock rule's answer that it matches. Assumes nothing.
+-- `acquire::lock_contended::contend_judged` meets its contract: each arm by the lock rule's answer that it matches.
+-- Assumes nothing.
 use borrow.Author.Needs.{needs}
 use mathlib.Core.Path.{sym}
 use Rattle.acquire.proofs.lock_contended.contend_judged.Statement.{statement}
@@ -23,10 +24,21 @@ reload-or-fill-requires : tie.Need-reload-or-fill-requires
 reload-or-fill-requires c κs = search needs
 
 returns : tie.Need-returns
-returns c = simp (c .stays .ensures, c .before .at .ensures, sym (c .before .before .before .before .lock-rule .ensures), c .before .before .enum-told .given .1)
+returns c =
+    simp (
+      c .stays .ensures,
+      c .before .at .ensures,
+      sym (c .before .before .before .before .lock-rule .ensures),
+      c .before .before .enum-told .given .1,
+    )
 
 returns-2 : tie.Need-returns-2
-returns-2 c = simp (c .reload-or-fill .ensures, sym (c .before .before .before .lock-rule .ensures), c .before .enum-told2 .given .1)
+returns-2 c =
+    simp (
+      c .reload-or-fill .ensures,
+      sym (c .before .before .before .lock-rule .ensures),
+      c .before .enum-told2 .given .1,
+    )
 
 pub contend-judged-spec : {M : Type 1} → statement M
 contend-judged-spec =

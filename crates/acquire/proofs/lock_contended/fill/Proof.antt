@@ -1,4 +1,5 @@
--- `acquire::lock_contended::fill` meets its contract: no test, what its calls promise put together. Assumes nothing.
+-- `acquire::lock_contended::fill` meets its contract: no test, what its calls promise put together.
+-- Assumes nothing.
 use borrow.Author.Needs.{needs}
 use Rattle.acquire.proofs.lock_contended.fill.Statement.{statement}
 use Rattle.acquire.proofs.lock_contended.fill.Tie as tie

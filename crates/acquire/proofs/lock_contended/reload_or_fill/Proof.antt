@@ -1,4 +1,6 @@
--- `acquire::lock_contended::reload_or_fill` meets its contract: each answer by the tests that led to it, and one more reload is in range by the second. Assumes nothing.
+-- `acquire::lock_contended::reload_or_fill` meets its contract: each answer by the tests that led to it, and one more
+-- reload is in range by the second.
+-- Assumes nothing.
 use borrow.Author.Needs.{needs}
 use mathlib.Core.Path.{sym}
 use borrow.Author.Tests.{lt-ltb, le-ltb}
@@ -24,13 +26,26 @@ stays-requires : tie.Need-stays-requires
 stays-requires c κs = search needs
 
 returns-2 : tie.Need-returns-2
-returns-2 c = let h1 = c .before .before .if2 .taken in let h2 = c .before .before .before .if1 .left in simp (c .stays .ensures, c .before .at .ensures, sym (c .before .before .before .before .queued .ensures), h1, h2, lt-ltb)
+returns-2 c =
+    let h1 = c .before .before .if2 .taken in
+    let h2 = c .before .before .before .if1 .left in
+    simp (
+      c .stays .ensures,
+      c .before .at .ensures,
+      sym (c .before .before .before .before .queued .ensures),
+      h1,
+      h2,
+      lt-ltb,
+    )
 
 fill-requires-2 : tie.Need-fill-requires-2
 fill-requires-2 c κs = search needs
 
 returns-3 : tie.Need-returns-3
-returns-3 c = let h1 = c .before .if2 .left in let h2 = c .before .before .if1 .left in simp (c .fill2 .ensures, sym (c .before .before .before .queued .ensures), h1, h2, le-ltb)
+returns-3 c =
+    let h1 = c .before .if2 .left in
+    let h2 = c .before .before .if1 .left in
+    simp (c .fill2 .ensures, sym (c .before .before .before .queued .ensures), h1, h2, le-ltb)
 
 pub reload-or-fill-spec : {M : Type 1} → statement M
 reload-or-fill-spec =

@@ -1,4 +1,5 @@
--- `acquire::try_read::try_read_judged` meets its contract: each arm by the answer of read_lock that it matches. Assumes nothing.
+-- `acquire::try_read::try_read_judged` meets its contract: each arm by the answer of read_lock that it matches.
+-- Assumes nothing.
 use borrow.Author.Needs.{needs}
 use mathlib.Core.Path.{sym}
 use Rattle.acquire.proofs.try_read.try_read_judged.Statement.{statement}
@@ -26,10 +27,22 @@ stays-requires-2 : tie.Need-stays-requires-2
 stays-requires-2 c κs = search needs
 
 returns : tie.Need-returns
-returns c = simp (c .stays .ensures, c .before .at .ensures, sym (c .before .before .before .before .read-lock .ensures), c .before .before .enum-told .given .1)
+returns c =
+    simp (
+      c .stays .ensures,
+      c .before .at .ensures,
+      sym (c .before .before .before .before .read-lock .ensures),
+      c .before .before .enum-told .given .1,
+    )
 
 returns-2 : tie.Need-returns-2
-returns-2 c = simp (c .stays2 .ensures, c .before .try-read-refused .ensures, sym (c .before .before .before .before .read-lock .ensures), c .before .before .enum-told2 .given .1)
+returns-2 c =
+    simp (
+      c .stays2 .ensures,
+      c .before .try-read-refused .ensures,
+      sym (c .before .before .before .before .read-lock .ensures),
+      c .before .before .enum-told2 .given .1,
+    )
 
 pub try-read-judged-spec : {M : Type 1} → statement M
 try-read-judged-spec =

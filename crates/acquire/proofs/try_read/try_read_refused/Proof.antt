@@ -1,4 +1,5 @@
--- `acquire::try_read::try_read_refused` meets its contract: each answer by the tests that led to it. Assumes nothing.
+-- `acquire::try_read::try_read_refused` meets its contract: each answer by the tests that led to it.
+-- Assumes nothing.
 use borrow.Author.Needs.{needs}
 use Rattle.acquire.proofs.try_read.try_read_refused.Statement.{statement}
 use Rattle.acquire.proofs.try_read.try_read_refused.Tie as tie

@@ -1,4 +1,5 @@
--- `acquire::wait::completed_load` meets its contract: each answer by the tests that led to it. Assumes nothing.
+-- `acquire::wait::completed_load` meets its contract: each answer by the tests that led to it.
+-- Assumes nothing.
 use borrow.Author.Needs.{needs}
 use Rattle.acquire.proofs.wait.completed_load.Statement.{statement}
 use Rattle.acquire.proofs.wait.completed_load.Tie as tie

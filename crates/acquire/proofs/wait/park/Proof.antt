@@ -1,4 +1,5 @@
--- `acquire::wait::park` meets its contract: both ways lead to the load, and the test decides about the token alone. Assumes nothing.
+-- `acquire::wait::park` meets its contract: both ways lead to the load, and the test decides about the token alone.
+-- Assumes nothing.
 use borrow.Author.Needs.{needs}
 use Rattle.acquire.proofs.wait.park.Statement.{statement}
 use Rattle.acquire.proofs.wait.park.Tie as tie

@@ -1,5 +1,6 @@
--- `listing::listing::follow` meets its contract. The loop's invariant: what is listed and what is still to follow make the whole; the
--- ways out of the loop meet in what was found. Assumes nothing.
+-- `listing::listing::follow` meets its contract. The loop's invariant: what is listed and what is still to follow make
+-- the whole; the ways out of the loop meet in what was found.
+-- Assumes nothing.
 use Prim.Native.Nat.{ℕ, _-_}
 use mathlib.Core.Bool.{true}
 use mathlib.Core.List.{List}
@@ -39,7 +40,8 @@ Right m head at stood visits (Tail tail) =
 Right m head at stood visits NotFound = emptyOf (Refused Damaged) ≡ waitersBy (followedOf m head)
 
 right : (c : tie.Joined1 Inv-loop μ-loop)
-    → Right (c .before .before .before .args .m) (c .before .before .before .args .head) (c .before .loop .at) (c .if1 .stood) (c .if1 .visits) (c .if1 .found)
+    → Right (c .before .before .before .args .m) (c .before .before .before .args .head) (c .before .loop .at)
+    (c .if1 .stood) (c .if1 .visits) (c .if1 .found)
 right c =
     let l = c .before .loop in
     ⊎-elim
@@ -79,7 +81,10 @@ add-visits : tie.Need-add-visits Inv-loop μ-loop
 add-visits c = omega arith
 
 node-by-requires : tie.Need-node-by-requires Inv-loop μ-loop
-node-by-requires c κs = (c .before .before .before .loop .inv .0 .count, sym (c .before .within .ensures) ∙ not-false _ (c .if2 .left))
+node-by-requires c κs = (
+  c .before .before .before .loop .inv .0 .count,
+  sym (c .before .within .ensures) ∙ not-false _ (c .if2 .left),
+)
 
 is-none-requires : tie.Need-is-none-requires Inv-loop μ-loop
 is-none-requires c κs = search needs
@@ -93,9 +98,14 @@ loop-less c = omega arith
 loop-again : tie.Need-loop-again Inv-loop μ-loop
 loop-again c =
     let l = c .before .before .before .before .before .before .before .before .loop in
-    let in-range = sym (c .before .before .before .before .before .before .within .ensures) ∙ not-false _ (c .before .before .before .before .before .if2 .left) in
+    let in-range =
+    sym (c .before .before .before .before .before .before .within .ensures)
+    ∙ not-false _ (c .before .before .before .before .before .if2 .left) in
     let node = c .before .before .before .before .node-by .ensures in
-    let unset = ap (λ n. isNone (n .tail)) (sym node) ∙ sym (c .before .before .is-none .ensures) ∙ not-false _ (c .before .if3 .left) in
+    let unset =
+    ap (λ n. isNone (n .tail)) (sym node)
+    ∙ sym (c .before .before .is-none .ensures)
+    ∙ not-false _ (c .before .if3 .left) in
     let next = c .to-node .ensures ∙ ap (λ n. toNode (n .next)) node in (
       on (l .inv .0) (l .at) (omega arith),
       rw next (set-on (l .inv .0) (l .at) (omega arith) in-range unset) ∙ l .inv .1,
@@ -114,7 +124,8 @@ empty-requires : tie.Need-empty-requires Inv-loop μ-loop
 empty-requires c κs = search needs
 
 returns : tie.Need-returns Inv-loop μ-loop
-returns c = c .to-tail .ensures ∙ (rw (c .before .before .found .given .1) at (right (c .before .before .before .before))) .2
+returns c =
+    c .to-tail .ensures ∙ (rw (c .before .before .found .given .1) at (right (c .before .before .before .before))) .2
 
 returns-2 : tie.Need-returns-2 Inv-loop μ-loop
 returns-2 c = c .empty .ensures ∙ rw (c .before .enum-told .given .1) at (right (c .before .before .before))

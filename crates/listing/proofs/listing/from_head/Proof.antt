@@ -1,4 +1,5 @@
--- `listing::listing::from_head` meets its contract: by the count. Assumes nothing.
+-- `listing::listing::from_head` meets its contract: by the count.
+-- Assumes nothing.
 use borrow.Author.Needs.{needs}
 use mathlib.Core.Path.{sym, _∙_}
 use Rattle.state.specs.Machine.{threadLimit}

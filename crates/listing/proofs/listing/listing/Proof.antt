@@ -1,4 +1,5 @@
--- `listing::listing::listing` meets its contract: each answer by the tests that led to it. Assumes nothing.
+-- `listing::listing::listing` meets its contract: each answer by the tests that led to it.
+-- Assumes nothing.
 use mathlib.Core.Path.{sym, _∙_}
 use borrow.Author.Needs.{needs}
 use Rattle.state.specs.Machine.{threadLimit}
@@ -24,7 +25,14 @@ returns : tie.Need-returns
 returns c =
     let good = c .before .before .before .before .if1 .taken in
     let queue = c .before .before .if2 .taken in
-    simp (c .follow .ensures, c .before .to-node .ensures, sym (c .before .before .before .before .before .good-count .ensures), sym (c .before .before .before .queued .ensures), good, queue)
+    simp (
+      c .follow .ensures,
+      c .before .to-node .ensures,
+      sym (c .before .before .before .before .before .good-count .ensures),
+      sym (c .before .before .before .queued .ensures),
+      good,
+      queue,
+    )
 
 empty-requires : tie.Need-empty-requires
 empty-requires c κs = search needs
@@ -33,13 +41,20 @@ returns-2 : tie.Need-returns-2
 returns-2 c =
     let good = c .before .before .before .if1 .taken in
     let unqueued = c .before .if2 .left in
-    simp (c .empty .ensures, sym (c .before .before .before .before .good-count .ensures), sym (c .before .before .queued .ensures), good, unqueued)
+    simp (
+      c .empty .ensures,
+      sym (c .before .before .before .before .good-count .ensures),
+      sym (c .before .before .queued .ensures),
+      good,
+      unqueued,
+    )
 
 empty-requires-2 : tie.Need-empty-requires-2
 empty-requires-2 c κs = search needs
 
 returns-3 : tie.Need-returns-3
-returns-3 c = let bad = c .before .if1 .left in simp (c .empty2 .ensures, sym (c .before .before .good-count .ensures), bad)
+returns-3 c =
+    let bad = c .before .if1 .left in simp (c .empty2 .ensures, sym (c .before .before .good-count .ensures), bad)
 
 pub listing-spec : {M : Type 1} → statement M
 listing-spec =

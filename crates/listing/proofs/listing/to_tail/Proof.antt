@@ -1,5 +1,6 @@
--- `listing::listing::to_tail` meets its contract. The loop's invariant: what is listed and what is still to come make what the walk makes
--- from its start. Assumes nothing.
+-- `listing::listing::to_tail` meets its contract. The loop's invariant: what is listed and what is still to come make
+-- what the walk makes from its start.
+-- Assumes nothing.
 use Prim.Native.Nat.{_-_}
 use mathlib.Core.Bool.{true}
 use mathlib.Core.Path.{_≡_, refl, sym, ap, _∙_}
@@ -17,7 +18,8 @@ abbrev Inv-loop : tie.InvT-loop
 Inv-loop m tail visits count at₀ nodes₀ length₀ at nodes length =
     Way m nodes length
     × (within (m .count) at ≡ true)
-    × (joined nodes length (toTail (m .count - length) m tail at) ≡ joined nodes₀ length₀ (toTail (m .count - length₀) m tail at₀))
+    × (joined nodes length (toTail (m .count - length) m tail at)
+    ≡ joined nodes₀ length₀ (toTail (m .count - length₀) m tail at₀))
 
 abbrev μ-loop : tie.MeasureT-loop
 μ-loop m tail visits count at₀ nodes₀ length₀ at nodes length = m .count - length
@@ -55,7 +57,9 @@ returns-2 c =
     let l = c .before .before .before .before .before .before .before .before .before .loop in
     let tail = c .before .before .before .before .before .before .before .before .before .before .before .args .tail in
     let other = c .before .before .before .before .before .before .if1 .taken in
-    let next = c .before .before .before .before .to-node .ensures ∙ ap (λ n. toNode (n .next)) (c .before .before .before .before .before .node-by .ensures) in
+    let next =
+    c .before .before .before .before .to-node .ensures
+    ∙ ap (λ n. toNode (n .next)) (c .before .before .before .before .before .node-by .ensures) in
     let out = sym (c .before .before .within .ensures) ∙ not-true _ (c .before .if3 .taken) in
     c .empty2 .ensures ∙ tail-lost (l .inv .0) tail (l .at) other (rw next at out) ∙ l .inv .2
 
@@ -77,7 +81,9 @@ loop-again c =
     let tail = c .before .before .before .before .before .before .before .before .before .before .args .tail in
     let other = c .before .before .before .before .before .if1 .taken in
     let node = c .before .before .before .to-node .result in
-    let next = c .before .before .before .to-node .ensures ∙ ap (λ n. toNode (n .next)) (c .before .before .before .before .node-by .ensures) in
+    let next =
+    c .before .before .before .to-node .ensures
+    ∙ ap (λ n. toNode (n .next)) (c .before .before .before .before .node-by .ensures) in
     let in-range = sym (c .before .within .ensures) ∙ not-false _ (c .if3 .left) in (
       on (l .inv .0) node (omega arith),
       in-range,

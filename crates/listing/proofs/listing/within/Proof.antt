@@ -1,4 +1,5 @@
--- `listing::listing::within` meets its contract: each answer by the tests that led to it. Assumes nothing.
+-- `listing::listing::within` meets its contract: each answer by the tests that led to it.
+-- Assumes nothing.
 use Rattle.word.specs.Cases.{cases}
 use Rattle.listing.proofs.listing.within.Statement.{statement}
 use Rattle.listing.proofs.listing.within.Tie as tie

@@ -1,4 +1,5 @@
--- `listing::reader_count::held` meets its contract: each answer by the tests that led to it. Assumes nothing.
+-- `listing::reader_count::held` meets its contract: each answer by the tests that led to it.
+-- Assumes nothing.
 use mathlib.Core.Path.{sym, _∙_}
 use borrow.Author.Needs.{needs}
 use Rattle.word.specs.Cases.{cases}

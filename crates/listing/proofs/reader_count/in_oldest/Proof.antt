@@ -1,5 +1,6 @@
--- `listing::reader_count::in_oldest` meets its contract: a listing that is not refused has a last node, which is within, by the laws of
--- listings. Assumes nothing.
+-- `listing::reader_count::in_oldest` meets its contract: a listing that is not refused has a last node, which is
+-- within, by the laws of listings.
+-- Assumes nothing.
 use Prim.Native.Nat.{ℕ, _-_, _≤_, _<_}
 use mathlib.Core.Bool.{true}
 use mathlib.Core.Path.{_≡_, refl, sym, ap, _∙_}
@@ -38,7 +39,9 @@ fine-by : (m : Machine) (r : ℕ) (l : Listed)
 fine-by m r lost fine some = cc
 fine-by m r (listed ns) fine some = ap (λ n. tracedOf m r (InNode n)) (kept-at ns (length ns - 1) (omega arith))
 
-refused-by : (m : Machine) (r : ℕ) (l : Listed) (x : Refusal) → waitersBy l .verdict ≡ Refused x → refusedOf ≡ inOldestBy m r l
+refused-by : (m : Machine) (r : ℕ) (l : Listed) (x : Refusal)
+    → waitersBy l .verdict ≡ Refused x
+    → refusedOf ≡ inOldestBy m r l
 refused-by m r lost x e = refl
 refused-by m r (listed ns) x e = cc
 
@@ -96,11 +99,15 @@ report-requires c κs = search needs
 returns : tie.Need-returns
 returns c =
     let a = c .before .before .before .before .args in
-    let refusal = ap (λ w. w .verdict) (sym (c .before .before .before .listing .ensures)) ∙ c .before .enum-told .given .1 in
+    let refusal =
+    ap (λ w. w .verdict) (sym (c .before .before .before .listing .ensures)) ∙ c .before .enum-told .given .1 in
     c .refused .ensures ∙ refused-by (a .m) (a .readers) (listedOf (a .m)) _ refusal
 
 returns-2 : tie.Need-returns-2
-returns-2 c = c .report .ensures ∙ rw (c .before .node-by .ensures) (known (c .before .before .before) .next (c .before .before .before .before .before .before .args .readers))
+returns-2 c =
+    c .report .ensures
+    ∙ rw (c .before .node-by .ensures)
+    (known (c .before .before .before) .next (c .before .before .before .before .before .before .args .readers))
 
 pub in-oldest-spec : {M : Type 1} → statement M
 in-oldest-spec =

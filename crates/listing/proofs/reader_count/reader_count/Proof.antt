@@ -1,4 +1,5 @@
--- `listing::reader_count::reader_count` meets its contract: each answer by the tests that led to it. Assumes nothing.
+-- `listing::reader_count::reader_count` meets its contract: each answer by the tests that led to it.
+-- Assumes nothing.
 use mathlib.Core.Path.{sym, _∙_}
 use native.Mathlib.Omega.{arith}
 use borrow.Author.Needs.{needs}
@@ -12,7 +13,8 @@ good-count-requires : tie.Need-good-count-requires
 good-count-requires c κs = search needs
 
 reads-below-requires : tie.Need-reads-below-requires
-reads-below-requires c κs = in-range (c .before .before .args .m .count) threadLimit (sym (c .before .good-count .ensures) ∙ c .if1 .taken) .1
+reads-below-requires c κs =
+    in-range (c .before .before .args .m .count) threadLimit (sym (c .before .good-count .ensures) ∙ c .if1 .taken) .1
 
 held-requires : tie.Need-held-requires
 held-requires c κs =

@@ -1,4 +1,5 @@
--- `listing::reader_count::reads_below` meets its contract: the loop's invariant is the sum over the threads passed. Assumes nothing.
+-- `listing::reader_count::reads_below` meets its contract: the loop's invariant is the sum over the threads passed.
+-- Assumes nothing.
 use Prim.Native.Nat.{_-_, _≤_}
 use mathlib.Core.Path.{_≡_, refl, ap, _∙_}
 use native.Mathlib.Omega.{arith}

@@ -1,4 +1,5 @@
--- `lock::advance::advance` meets its contract: each answer by the tests that led to it. Assumes nothing.
+-- `lock::advance::advance` meets its contract: each answer by the tests that led to it.
+-- Assumes nothing.
 use borrow.Author.Needs.{needs}
 use Rattle.lock.specs.Advance.{advanceOf}
 use Rattle.lock.proofs.advance.advance.Statement.{statement}

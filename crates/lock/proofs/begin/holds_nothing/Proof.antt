@@ -1,4 +1,5 @@
--- `lock::begin::holds_nothing` meets its contract: each answer by the tests that led to it. Assumes nothing.
+-- `lock::begin::holds_nothing` meets its contract: each answer by the tests that led to it.
+-- Assumes nothing.
 use borrow.Author.Needs.{needs}
 use mathlib.Core.Path.{sym}
 use borrow.Author.Tests.{ne-eqb}

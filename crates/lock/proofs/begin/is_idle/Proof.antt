@@ -1,4 +1,5 @@
--- `lock::begin::is_idle` meets its contract: each answer by the tests that led to it. Assumes nothing.
+-- `lock::begin::is_idle` meets its contract: each answer by the tests that led to it.
+-- Assumes nothing.
 use borrow.Author.Needs.{needs}
 use mathlib.Core.Path.{sym}
 use Rattle.lock.proofs.begin.is_idle.Statement.{statement}

@@ -1,4 +1,5 @@
--- `lock::begin::may_begin` meets its contract: each answer by the tests that led to it. Assumes nothing.
+-- `lock::begin::may_begin` meets its contract: each answer by the tests that led to it.
+-- Assumes nothing.
 use borrow.Author.Needs.{needs}
 use Rattle.lock.proofs.begin.may_begin.Statement.{statement}
 use Rattle.lock.proofs.begin.may_begin.Tie as tie

@@ -1,4 +1,5 @@
--- `lock::code::call_of` meets its contract: the seven begin codes, one by one. Assumes nothing.
+-- `lock::code::call_of` meets its contract: the seven begin codes, one by one.
+-- Assumes nothing.
 use borrow.Author.Tests.{ne-eqb}
 use Rattle.lock.proofs.code.call_of.Statement.{statement}
 use Rattle.lock.proofs.code.call_of.Tie as tie
@@ -22,7 +23,16 @@ returns-6 : tie.Need-returns-6
 returns-6 c = simp (c .match .keys6)
 
 returns-7 : tie.Need-returns-7
-returns-7 c = let r = c .match .rest in simp (ne-eqb _ _ (r .1), ne-eqb _ _ (r .0 .1), ne-eqb _ _ (r .0 .0 .1), ne-eqb _ _ (r .0 .0 .0 .1), ne-eqb _ _ (r .0 .0 .0 .0 .1), ne-eqb _ _ (r .0 .0 .0 .0 .0 .1))
+returns-7 c =
+    let r = c .match .rest in
+    simp (
+      ne-eqb _ _ (r .1),
+      ne-eqb _ _ (r .0 .1),
+      ne-eqb _ _ (r .0 .0 .1),
+      ne-eqb _ _ (r .0 .0 .0 .1),
+      ne-eqb _ _ (r .0 .0 .0 .0 .1),
+      ne-eqb _ _ (r .0 .0 .0 .0 .0 .1),
+    )
 
 pub call-of-spec : {M : Type 1} → statement M
 call-of-spec =

@@ -1,4 +1,5 @@
--- `lock::step::halted` meets its contract: each answer by the tests that led to it. Assumes nothing.
+-- `lock::step::halted` meets its contract: each answer by the tests that led to it.
+-- Assumes nothing.
 use borrow.Author.Needs.{needs}
 use Rattle.lock.proofs.step.halted.Statement.{statement}
 use Rattle.lock.proofs.step.halted.Tie as tie

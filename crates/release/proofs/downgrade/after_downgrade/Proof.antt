@@ -1,4 +1,5 @@
--- `release::downgrade::after_downgrade` meets its contract: each answer by the tests that led to it. Assumes nothing.
+-- `release::downgrade::after_downgrade` meets its contract: each answer by the tests that led to it.
+-- Assumes nothing.
 use borrow.Author.Needs.{needs}
 use mathlib.Core.Path.{sym}
 use Rattle.release.proofs.downgrade.after_downgrade.Statement.{statement}
@@ -17,7 +18,8 @@ walk-from-requires : tie.Need-walk-from-requires
 walk-from-requires c κs = search needs
 
 returns-2 : tie.Need-returns-2
-returns-2 c = let h1 = c .before .if1 .left in simp (c .walk-from .ensures, sym (c .before .before .queue-locked .ensures), h1)
+returns-2 c =
+    let h1 = c .before .if1 .left in simp (c .walk-from .ensures, sym (c .before .before .queue-locked .ensures), h1)
 
 pub after-downgrade-spec : {M : Type 1} → statement M
 after-downgrade-spec =

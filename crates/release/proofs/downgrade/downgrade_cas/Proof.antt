@@ -1,4 +1,5 @@
--- `release::downgrade::downgrade_cas` meets its contract: each answer by the tests that led to it. Assumes nothing.
+-- `release::downgrade::downgrade_cas` meets its contract: each answer by the tests that led to it.
+-- Assumes nothing.
 use borrow.Author.Needs.{needs}
 use borrow.Author.Tests.{ne-eqb}
 use Rattle.release.proofs.downgrade.downgrade_cas.Statement.{statement}
@@ -17,7 +18,9 @@ writes-requires : tie.Need-writes-requires
 writes-requires c κs = search needs
 
 returns : tie.Need-returns
-returns c = let h1 = c .before .before .before .if1 .taken in simp (c .writes .ensures, c .before .end .ensures, c .before .before .downgraded .ensures, h1)
+returns c =
+    let h1 = c .before .before .before .if1 .taken in
+    simp (c .writes .ensures, c .before .end .ensures, c .before .before .downgraded .ensures, h1)
 
 at-requires : tie.Need-at-requires
 at-requires c κs = search needs

@@ -1,4 +1,5 @@
--- `release::downgrade::downgrade_slow_cas` meets its contract: each answer by the tests that led to it. Assumes nothing.
+-- `release::downgrade::downgrade_slow_cas` meets its contract: each answer by the tests that led to it.
+-- Assumes nothing.
 use borrow.Author.Needs.{needs}
 use mathlib.Core.Path.{sym}
 use Rattle.release.proofs.downgrade.downgrade_slow_cas.Statement.{statement}
@@ -20,7 +21,16 @@ writes-requires : tie.Need-writes-requires
 writes-requires c κs = search needs
 
 returns : tie.Need-returns
-returns c = let h1 = c .before .before .before .before .if1 .taken in simp (c .writes .ensures, c .before .after-downgrade .ensures, c .before .before .downgraded .ensures, c .before .before .before .downgraded-word .ensures, sym (c .before .before .before .before .before .agrees .ensures), h1)
+returns c =
+    let h1 = c .before .before .before .before .if1 .taken in
+    simp (
+      c .writes .ensures,
+      c .before .after-downgrade .ensures,
+      c .before .before .downgraded .ensures,
+      c .before .before .before .downgraded-word .ensures,
+      sym (c .before .before .before .before .before .agrees .ensures),
+      h1,
+    )
 
 at-requires : tie.Need-at-requires
 at-requires c κs = search needs
@@ -29,7 +39,9 @@ stays-requires : tie.Need-stays-requires
 stays-requires c κs = search needs
 
 returns-2 : tie.Need-returns-2
-returns-2 c = let h1 = c .before .before .before .if1 .left in simp (c .stays .ensures, c .before .at .ensures, sym (c .before .before .before .before .agrees .ensures), h1)
+returns-2 c =
+    let h1 = c .before .before .before .if1 .left in
+    simp (c .stays .ensures, c .before .at .ensures, sym (c .before .before .before .before .agrees .ensures), h1)
 
 pub downgrade-slow-cas-spec : {M : Type 1} → statement M
 downgrade-slow-cas-spec =

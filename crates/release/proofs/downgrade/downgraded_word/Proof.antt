@@ -1,4 +1,5 @@
--- `release::downgrade::downgraded_word` meets its contract: each answer by the tests that led to it. Assumes nothing.
+-- `release::downgrade::downgraded_word` meets its contract: each answer by the tests that led to it.
+-- Assumes nothing.
 use borrow.Author.Needs.{needs}
 use mathlib.Core.Path.{sym}
 use Rattle.release.proofs.downgrade.downgraded_word.Statement.{statement}
@@ -11,7 +12,9 @@ set-downgraded-requires : tie.Need-set-downgraded-requires
 set-downgraded-requires c κs = search needs
 
 returns : tie.Need-returns
-returns c = let h1 = c .before .if1 .taken in simp (c .set-downgraded .ensures, sym (c .before .before .queue-locked .ensures), h1)
+returns c =
+    let h1 = c .before .if1 .taken in
+    simp (c .set-downgraded .ensures, sym (c .before .before .queue-locked .ensures), h1)
 
 add-t3 : tie.Need-add-t3
 add-t3 c = search needs

@@ -1,4 +1,5 @@
--- `release::read_unlock::after_subtract` meets its contract: each answer by the tests that led to it. Assumes nothing.
+-- `release::read_unlock::after_subtract` meets its contract: each answer by the tests that led to it.
+-- Assumes nothing.
 use borrow.Author.Needs.{needs}
 use borrow.Author.Tests.{ne-eqb}
 use Rattle.release.proofs.read_unlock.after_subtract.Statement.{statement}

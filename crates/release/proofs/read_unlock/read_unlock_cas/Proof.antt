@@ -1,4 +1,6 @@
--- `release::read_unlock::read_unlock_cas` meets its contract: an agreeing compare by read_unlock's answer on the word seen, another by the word reported. Assumes nothing.
+-- `release::read_unlock::read_unlock_cas` meets its contract: an agreeing compare by read_unlock's answer on the word
+-- seen, another by the word reported.
+-- Assumes nothing.
 use borrow.Author.Needs.{needs}
 use mathlib.Core.Path.{sym}
 use Rattle.release.proofs.read_unlock.read_unlock_cas.Statement.{statement}
@@ -35,19 +37,47 @@ read-unlock-judged-requires-2 : tie.Need-read-unlock-judged-requires-2
 read-unlock-judged-requires-2 c κs = search needs
 
 returns : tie.Need-returns
-returns c = let h1 = c .before .before .before .before .before .before .before .if1 .taken in simp (c .writes .ensures, c .before .end .ensures, c .before .before .released-read .ensures, sym (c .before .before .before .before .before .before .read-unlock .ensures), sym (c .before .before .before .before .before .before .before .before .agrees .ensures), c .before .before .before .before .to .given .1, h1)
+returns c =
+    let h1 = c .before .before .before .before .before .before .before .if1 .taken in
+    simp (
+      c .writes .ensures,
+      c .before .end .ensures,
+      c .before .before .released-read .ensures,
+      sym (c .before .before .before .before .before .before .read-unlock .ensures),
+      sym (c .before .before .before .before .before .before .before .before .agrees .ensures),
+      c .before .before .before .before .to .given .1,
+      h1,
+    )
 
 returns-2 : tie.Need-returns-2
-returns-2 c = let h1 = c .before .before .before .before .if1 .taken in simp (c .read-unlock-judged .ensures, sym (c .before .before .before .read-unlock .ensures), sym (c .before .before .before .before .before .agrees .ensures), c .before .enum-told .given .1, h1)
+returns-2 c =
+    let h1 = c .before .before .before .before .if1 .taken in
+    simp (
+      c .read-unlock-judged .ensures,
+      sym (c .before .before .before .read-unlock .ensures),
+      sym (c .before .before .before .before .before .agrees .ensures),
+      c .before .enum-told .given .1,
+      h1,
+    )
 
 returns-3 : tie.Need-returns-3
-returns-3 c = let h1 = c .before .before .before .before .if1 .taken in simp (c .read-unlock-judged2 .ensures, sym (c .before .before .before .read-unlock .ensures), sym (c .before .before .before .before .before .agrees .ensures), c .before .enum-told2 .given .1, h1)
+returns-3 c =
+    let h1 = c .before .before .before .before .if1 .taken in
+    simp (
+      c .read-unlock-judged2 .ensures,
+      sym (c .before .before .before .read-unlock .ensures),
+      sym (c .before .before .before .before .before .agrees .ensures),
+      c .before .enum-told2 .given .1,
+      h1,
+    )
 
 read-unlock-judged-requires-3 : tie.Need-read-unlock-judged-requires-3
 read-unlock-judged-requires-3 c κs = search needs
 
 returns-4 : tie.Need-returns-4
-returns-4 c = let h1 = c .before .if1 .left in simp (c .read-unlock-judged3 .ensures, sym (c .before .before .agrees .ensures), h1)
+returns-4 c =
+    let h1 = c .before .if1 .left in
+    simp (c .read-unlock-judged3 .ensures, sym (c .before .before .agrees .ensures), h1)
 
 pub read-unlock-cas-spec : {M : Type 1} → statement M
 read-unlock-cas-spec =

@@ -1,4 +1,5 @@
--- `release::read_unlock::read_unlock_judged` meets its contract: each arm by the answer of read_unlock that it matches. Assumes nothing.
+-- `release::read_unlock::read_unlock_judged` meets its contract: each arm by the answer of read_unlock that it matches.
+-- Assumes nothing.
 use borrow.Author.Needs.{needs}
 use mathlib.Core.Path.{sym}
 use Rattle.release.proofs.read_unlock.read_unlock_judged.Statement.{statement}
@@ -29,10 +30,22 @@ enum-told-3 : tie.Need-enum-told-3
 enum-told-3 c = search needs
 
 returns : tie.Need-returns
-returns c = simp (c .stays .ensures, c .before .at .ensures, sym (c .before .before .before .before .read-unlock .ensures), c .before .before .enum-told .given .1)
+returns c =
+    simp (
+      c .stays .ensures,
+      c .before .at .ensures,
+      sym (c .before .before .before .before .read-unlock .ensures),
+      c .before .before .enum-told .given .1,
+    )
 
 returns-2 : tie.Need-returns-2
-returns-2 c = simp (c .stays2 .ensures, c .before .walk-from .ensures, sym (c .before .before .before .before .read-unlock .ensures), c .before .before .enum-told2 .given .1)
+returns-2 c =
+    simp (
+      c .stays2 .ensures,
+      c .before .walk-from .ensures,
+      sym (c .before .before .before .before .read-unlock .ensures),
+      c .before .before .enum-told2 .given .1,
+    )
 
 returns-3 : tie.Need-returns-3
 returns-3 c = simp (sym (c .before .before .read-unlock .ensures), c .enum-told3 .given .1)

@@ -1,4 +1,5 @@
--- `release::read_unlock::subtract` meets its contract: each answer by the test of the raw next against 16. Assumes nothing.
+-- `release::read_unlock::subtract` meets its contract: each answer by the test of the raw next against 16.
+-- Assumes nothing.
 use borrow.Author.Needs.{needs}
 use borrow.Author.Tests.{lt-ltb, le-ltb}
 use Rattle.release.proofs.read_unlock.subtract.Statement.{statement}
@@ -20,7 +21,16 @@ subtracts-requires : tie.Need-subtracts-requires
 subtracts-requires c κs = search needs
 
 returns-2 : tie.Need-returns-2
-returns-2 c = let h1 = c .before .before .before .before .if1 .left in simp (c .subtracts .ensures, c .before .after-subtract .ensures, c .before .before .released-read .ensures, c .before .before .before .with-next .ensures, h1, le-ltb)
+returns-2 c =
+    let h1 = c .before .before .before .before .if1 .left in
+    simp (
+      c .subtracts .ensures,
+      c .before .after-subtract .ensures,
+      c .before .before .released-read .ensures,
+      c .before .before .before .with-next .ensures,
+      h1,
+      le-ltb,
+    )
 
 pub subtract-spec : {M : Type 1} → statement M
 subtract-spec =

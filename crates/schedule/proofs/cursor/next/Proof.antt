@@ -1,4 +1,5 @@
--- `schedule::cursor::next` meets its contract: each answer by the reply of the event at the cursor. Assumes nothing.
+-- `schedule::cursor::next` meets its contract: each answer by the reply of the event at the cursor.
+-- Assumes nothing.
 use mathlib.Core.Path.{sym, _∙_}
 use native.Mathlib.Omega.{arith}
 use borrow.Author.Needs.{needs}
@@ -11,7 +12,9 @@ moved-to-requires : tie.Need-moved-to-requires
 moved-to-requires c κs = search needs
 
 returns : tie.Need-returns
-returns c = c .moved-to .ensures ∙ sym (moved-ended (c .before .before .before .args .c) (c .before .before .before .args .s .now) (omega arith))
+returns c =
+    c .moved-to .ensures
+    ∙ sym (moved-ended (c .before .before .before .args .c) (c .before .before .before .args .s .now) (omega arith))
 
 code-at-requires : tie.Need-code-at-requires
 code-at-requires c κs = search needs
@@ -55,7 +58,8 @@ returns-3 c =
     let p = c .before .before .before .before .before .before .code-at .ensures in
     let q = c .before .before .before .before .before .thread-at .ensures in
     let e = event-read (a .c .machine) (a .s .now) (a .c .at) p q (c .before .before .before .before .event .ensures) in
-    c .moved-to3 .ensures ∙ rw (p, q) (sym (moved-accepted (a .c) (a .s .now) o (omega arith) e (t .0 .0) (t .0 .1 .0) (t .1)))
+    c .moved-to3 .ensures
+    ∙ rw (p, q) (sym (moved-accepted (a .c) (a .s .now) o (omega arith) e (t .0 .0) (t .0 .1 .0) (t .1)))
 
 pub next-spec : {M : Type 1} → statement M
 next-spec =

@@ -1,4 +1,5 @@
--- `schedule::file::check` meets its contract: each answer by the tests that led to it. Assumes nothing.
+-- `schedule::file::check` meets its contract: each answer by the tests that led to it.
+-- Assumes nothing.
 use borrow.Author.Needs.{needs}
 use Rattle.word.specs.Cases.{cases}
 use Rattle.schedule.specs.File.{checkedOf}

@@ -1,4 +1,5 @@
--- `schedule::file::right_length` meets its contract: each answer by the tests that led to it. Assumes nothing.
+-- `schedule::file::right_length` meets its contract: each answer by the tests that led to it.
+-- Assumes nothing.
 use borrow.Author.Needs.{needs}
 use mathlib.Core.Path.{sym}
 use borrow.Author.Tests.{eq-eqb, ne-eqb}

@@ -1,4 +1,5 @@
--- `schedule::part::from` meets its contract: a part up to the slice's end is all that a drop leaves. Assumes nothing.
+-- `schedule::part::from` meets its contract: a part up to the slice's end is all that a drop leaves.
+-- Assumes nothing.
 use borrow.Author.Needs.{needs}
 use Prim.Native.Nat.{_-_}
 use mathlib.Core.Path.{sym, _∙_}
@@ -21,7 +22,8 @@ returns : tie.Need-returns
 returns c =
     let s = c .before .before .args .s .now in
     let n = length s in
-    take-all (n - n) (drop n s) (omega (arith, length-drop n s)) ∙ (drop-length s ∙ sym (drop-of-length-le s {i = c .before .before .args .at} (omega arith)))
+    take-all (n - n) (drop n s) (omega (arith, length-drop n s))
+    ∙ (drop-length s ∙ sym (drop-of-length-le s {i = c .before .before .args .at} (omega arith)))
 
 sub-result-2 : tie.Need-sub-result-2
 sub-result-2 c = search needs

@@ -1,4 +1,6 @@
--- `schedule::replay::replay` meets its contract: the loop keeps that the events run, and then the replay of the rest, are the replay of all. Assumes nothing.
+-- `schedule::replay::replay` meets its contract: the loop keeps that the events run,
+-- and then the replay of the rest, are the replay of all.
+-- Assumes nothing.
 use Prim.Native.Nat.{_*_, _/_, _-_, _≤_}
 use mathlib.Core.Path.{_≡_, sym, _∙_}
 use native.Mathlib.Omega.{arith}
@@ -40,7 +42,10 @@ returns c =
     let s = c .before .before .before .before .before .before .before .before .before .before .args .s .now in
     let o = c .before .before .before .before .event .result in
     let t = c .before .before .reply .given in
-    let e = event-read (l .m) s (l .n) (c .before .before .before .before .before .before .code-at .ensures) (c .before .before .before .before .before .thread-at .ensures) (c .before .before .before .before .event .ensures) in
+    let e =
+    event-read (l .m) s (l .n) (c .before .before .before .before .before .before .code-at .ensures)
+    (c .before .before .before .before .before .thread-at .ensures)
+    (c .before .before .before .before .event .ensures) in
     c .stopped .ensures ∙ (sym (refused-here (l .m) s (l .n) o (omega arith) e (t .0 .0) (t .1)) ∙ l .inv .1)
 
 enum-told : tie.Need-enum-told Inv-loop μ-loop
@@ -58,7 +63,9 @@ loop-again c =
     let s = c .before .before .before .before .before .before .before .before .before .args .s .now in
     let o = c .before .before .before .event .result in
     let t = c .before .enum-told .given in
-    let e = event-read (l .m) s (l .n) (c .before .before .before .before .before .code-at .ensures) (c .before .before .before .before .thread-at .ensures) (c .before .before .before .event .ensures) in
+    let e =
+    event-read (l .m) s (l .n) (c .before .before .before .before .before .code-at .ensures)
+    (c .before .before .before .before .thread-at .ensures) (c .before .before .before .event .ensures) in
     (omega arith, sym (accepted-here (l .m) s (l .n) o (omega arith) e (t .0 .0) (t .0 .1 .0) (t .1)) ∙ l .inv .1)
 
 stopped-requires-2 : tie.Need-stopped-requires-2 Inv-loop μ-loop

@@ -1,4 +1,5 @@
--- `schedule::replay::rest` meets its contract: what `from` hands back; past the end both sides are empty. Assumes nothing.
+-- `schedule::replay::rest` meets its contract: what `from` hands back; past the end both sides are empty.
+-- Assumes nothing.
 use Prim.Native.Nat.{_*_}
 use mathlib.Core.Path.{sym, _∙_}
 use native.Mathlib.Omega.{arith}

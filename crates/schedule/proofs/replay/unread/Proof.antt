@@ -1,4 +1,5 @@
--- `schedule::replay::unread` meets its contract: what `rest` hands back of what `replay` answers. Assumes nothing.
+-- `schedule::replay::unread` meets its contract: what `rest` hands back of what `replay` answers.
+-- Assumes nothing.
 use borrow.Author.Needs.{needs}
 use Rattle.schedule.proofs.replay.unread.Statement.{statement}
 use Rattle.schedule.proofs.replay.unread.Tie as tie

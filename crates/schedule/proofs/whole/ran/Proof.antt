@@ -1,4 +1,5 @@
--- `schedule::whole::ran` meets its contract: what `stop_of` answers, with the rest as it was. Assumes nothing.
+-- `schedule::whole::ran` meets its contract: what `stop_of` answers, with the rest as it was.
+-- Assumes nothing.
 use borrow.Author.Needs.{needs}
 use Rattle.schedule.proofs.whole.ran.Statement.{statement}
 use Rattle.schedule.proofs.whole.ran.Tie as tie

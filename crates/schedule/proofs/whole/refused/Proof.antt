@@ -1,4 +1,5 @@
--- `schedule::whole::refused` meets its contract: a fresh machine of one thread, from what `fresh` ensures. Assumes nothing.
+-- `schedule::whole::refused` meets its contract: a fresh machine of one thread, from what `fresh` ensures.
+-- Assumes nothing.
 use borrow.Author.Needs.{needs}
 use Rattle.schedule.proofs.whole.refused.Statement.{statement}
 use Rattle.schedule.proofs.whole.refused.Tie as tie

@@ -1,4 +1,5 @@
--- `schedule::whole::replay_file` meets its contract: by what `check` answers, and what the calls after it ensure. Assumes nothing.
+-- `schedule::whole::replay_file` meets its contract: by what `check` answers, and what the calls after it ensure.
+-- Assumes nothing.
 use borrow.Author.Needs.{needs}
 use mathlib.Core.Path.{sym}
 use Rattle.schedule.proofs.whole.replay_file.Statement.{statement}
@@ -29,10 +30,23 @@ refused-requires : tie.Need-refused-requires
 refused-requires c κs = search needs
 
 returns : tie.Need-returns
-returns c = simp (c .ran .ensures, c .before .replay .ensures, c .before .before .events .ensures, c .before .before .before .fresh .ensures, sym (c .before .before .before .before .before .before .before .check .ensures), c .before .before .before .before .before .checked .given .1)
+returns c =
+    simp (
+      c .ran .ensures,
+      c .before .replay .ensures,
+      c .before .before .events .ensures,
+      c .before .before .before .fresh .ensures,
+      sym (c .before .before .before .before .before .before .before .check .ensures),
+      c .before .before .before .before .before .checked .given .1,
+    )
 
 returns-2 : tie.Need-returns-2
-returns-2 c = simp (c .refused .ensures, sym (c .before .before .before .before .check .ensures), c .before .before .checked2 .given .1)
+returns-2 c =
+    simp (
+      c .refused .ensures,
+      sym (c .before .before .before .before .check .ensures),
+      c .before .before .checked2 .given .1,
+    )
 
 pub replay-file-spec : {M : Type 1} → statement M
 replay-file-spec =

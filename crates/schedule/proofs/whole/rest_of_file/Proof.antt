@@ -1,4 +1,6 @@
--- `schedule::whole::rest_of_file` meets its contract: by why the replay stopped, and what `events` and `rest` hand back. Assumes nothing.
+-- `schedule::whole::rest_of_file` meets its contract: by why the replay stopped,
+-- and what `events` and `rest` hand back.
+-- Assumes nothing.
 use borrow.Author.Needs.{needs}
 use Rattle.schedule.proofs.whole.rest_of_file.Statement.{statement}
 use Rattle.schedule.proofs.whole.rest_of_file.Tie as tie

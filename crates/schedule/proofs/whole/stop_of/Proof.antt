@@ -1,4 +1,5 @@
--- `schedule::whole::stop_of` meets its contract: by the reason it was given. Assumes nothing.
+-- `schedule::whole::stop_of` meets its contract: by the reason it was given.
+-- Assumes nothing.
 use borrow.Author.Needs.{needs}
 use Rattle.schedule.proofs.whole.stop_of.Statement.{statement}
 use Rattle.schedule.proofs.whole.stop_of.Tie as tie

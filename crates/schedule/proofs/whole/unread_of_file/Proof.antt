@@ -1,4 +1,5 @@
--- `schedule::whole::unread_of_file` meets its contract: what `rest_of_file` hands back of what `replay_file` answers. Assumes nothing.
+-- `schedule::whole::unread_of_file` meets its contract: what `rest_of_file` hands back of what `replay_file` answers.
+-- Assumes nothing.
 use borrow.Author.Needs.{needs}
 use Rattle.schedule.proofs.whole.unread_of_file.Statement.{statement}
 use Rattle.schedule.proofs.whole.unread_of_file.Tie as tie

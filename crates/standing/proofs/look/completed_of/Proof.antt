@@ -1,4 +1,5 @@
--- `standing::look::completed_of` meets its contract. Assumes nothing.
+-- `standing::look::completed_of` meets its contract.
+-- Assumes nothing.
 use Rattle.word.specs.Cases.{cases}
 use borrow.Author.Needs.{needs}
 use Rattle.standing.proofs.look.completed_of.Statement.{statement}

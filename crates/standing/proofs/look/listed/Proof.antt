@@ -1,4 +1,5 @@
--- `standing::look::listed` meets its contract: the loop keeps whether the node is among those passed. Assumes nothing.
+-- `standing::look::listed` meets its contract: the loop keeps whether the node is among those passed.
+-- Assumes nothing.
 use Prim.Native.Nat.{_-_, _≤_}
 use mathlib.Core.Path.{_≡_, ap, _∙_}
 use native.Mathlib.Omega.{arith}
@@ -38,8 +39,12 @@ loop-less c = omega arith
 loop-again : tie.Need-loop-again Inv-loop μ-loop
 loop-again c =
     let l = c .before .before .before .loop in
-    let a = c .before .before .before .before .args in
-    (omega arith, c .same-or .ensures ∙ (ap (λ f. sameOr f (getD (a .t1 .nodes) (l .i) none) (a .n)) (l .inv .1) ∙ among-more (l .i) (a .t1 .nodes) (a .n)))
+    let a = c .before .before .before .before .args in (
+      omega arith,
+      c .same-or .ensures
+          ∙ (ap (λ f. sameOr f (getD (a .t1 .nodes) (l .i) none) (a .n)) (l .inv .1)
+          ∙ among-more (l .i) (a .t1 .nodes) (a .n)),
+    )
 
 returns : tie.Need-returns Inv-loop μ-loop
 returns c =

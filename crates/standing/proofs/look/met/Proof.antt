@@ -1,4 +1,5 @@
--- `standing::look::met` meets its contract: the loop keeps what the visits left will come to. Assumes nothing.
+-- `standing::look::met` meets its contract: the loop keeps what the visits left will come to.
+-- Assumes nothing.
 use mathlib.Core.Bool.{false}
 use mathlib.Core.Path.{_≡_, refl, _∙_}
 use native.Mathlib.Omega.{arith}
@@ -33,7 +34,8 @@ loop-again : tie.Need-loop-again Inv-loop μ-loop
 loop-again c =
     let l = c .before .before .before .loop in
     let a = c .before .before .before .before .args in
-    rw (c .prev-of .ensures, c .before .same-or .ensures) (met-more (l .left) (a .m) (a .n) (l .at) (l .found) (omega arith) ∙ l .inv)
+    rw (c .prev-of .ensures, c .before .same-or .ensures)
+    (met-more (l .left) (a .m) (a .n) (l .at) (l .found) (omega arith) ∙ l .inv)
 
 returns : tie.Need-returns Inv-loop μ-loop
 returns c =

@@ -1,4 +1,5 @@
--- `standing::look::place_of` meets its contract. Assumes nothing.
+-- `standing::look::place_of` meets its contract.
+-- Assumes nothing.
 use Rattle.word.specs.Cases.{cases}
 use borrow.Author.Needs.{needs}
 use Rattle.standing.proofs.look.place_of.Statement.{statement}

@@ -1,4 +1,5 @@
--- `standing::look::prev_at` meets its contract. Assumes nothing.
+-- `standing::look::prev_at` meets its contract.
+-- Assumes nothing.
 use Rattle.word.specs.Cases.{cases}
 use borrow.Author.Needs.{needs}
 use Rattle.standing.proofs.look.prev_at.Statement.{statement}

@@ -1,4 +1,5 @@
--- `standing::look::prev_of` meets its contract. Assumes nothing.
+-- `standing::look::prev_of` meets its contract.
+-- Assumes nothing.
 use mathlib.Core.Path.{sym}
 use borrow.Author.Needs.{needs}
 use Rattle.standing.proofs.look.prev_of.Statement.{statement}
@@ -20,7 +21,12 @@ returns : tie.Need-returns
 returns c = simp (sym (c .before .before .slot .ensures), c .enum-told .given .1)
 
 returns-2 : tie.Need-returns-2
-returns-2 c = simp (c .prev-at .ensures, sym (c .before .before .before .before .slot .ensures), c .before .before .slot2 .given .1)
+returns-2 c =
+    simp (
+      c .prev-at .ensures,
+      sym (c .before .before .before .before .slot .ensures),
+      c .before .before .slot2 .given .1,
+    )
 
 pub prev-of-spec : {M : Type 1} → statement M
 prev-of-spec =

@@ -1,4 +1,5 @@
--- `standing::look::same_or` meets its contract. Assumes nothing.
+-- `standing::look::same_or` meets its contract.
+-- Assumes nothing.
 use Rattle.word.specs.Cases.{cases}
 use Rattle.standing.proofs.look.same_or.Statement.{statement}
 use Rattle.standing.proofs.look.same_or.Tie as tie

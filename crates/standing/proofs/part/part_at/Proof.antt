@@ -1,4 +1,5 @@
--- `standing::part::part_at` meets its contract. Assumes nothing.
+-- `standing::part::part_at` meets its contract.
+-- Assumes nothing.
 use borrow.Author.Needs.{needs}
 use Rattle.standing.proofs.part.part_at.Statement.{statement}
 use Rattle.standing.proofs.part.part_at.Tie as tie

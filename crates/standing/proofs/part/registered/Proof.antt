@@ -1,4 +1,5 @@
--- `standing::part::registered` meets its contract. Assumes nothing.
+-- `standing::part::registered` meets its contract.
+-- Assumes nothing.
 use borrow.Author.Needs.{needs}
 use Rattle.standing.proofs.part.registered.Statement.{statement}
 use Rattle.standing.proofs.part.registered.Tie as tie

@@ -1,4 +1,5 @@
--- `standing::part::walking` meets its contract. Assumes nothing.
+-- `standing::part::walking` meets its contract.
+-- Assumes nothing.
 use borrow.Author.Needs.{needs}
 use Rattle.standing.proofs.part.walking.Statement.{statement}
 use Rattle.standing.proofs.part.walking.Tie as tie

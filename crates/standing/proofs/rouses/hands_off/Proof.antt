@@ -1,4 +1,5 @@
--- `standing::rouses::hands_off` meets its contract. Assumes nothing.
+-- `standing::rouses::hands_off` meets its contract.
+-- Assumes nothing.
 use mathlib.Core.Path.{sym}
 use borrow.Author.Needs.{needs}
 use Rattle.standing.proofs.rouses.hands_off.Statement.{statement}

@@ -1,4 +1,5 @@
--- `standing::rouses::holding_of` meets its contract. Assumes nothing.
+-- `standing::rouses::holding_of` meets its contract.
+-- Assumes nothing.
 use Rattle.word.specs.Cases.{cases}
 use borrow.Author.Needs.{needs}
 use Rattle.standing.proofs.rouses.holding_of.Statement.{statement}

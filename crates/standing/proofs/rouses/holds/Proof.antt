@@ -1,4 +1,5 @@
--- `standing::rouses::holds` meets its contract: by its two numbers. Assumes nothing.
+-- `standing::rouses::holds` meets its contract: by its two numbers.
+-- Assumes nothing.
 use Prim.Native.Nat.{ℕ, _<_}
 use mathlib.Core.Path.{refl, ap, subst}
 use native.Mathlib.Omega.{arith}

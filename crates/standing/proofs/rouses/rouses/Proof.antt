@@ -1,4 +1,5 @@
--- `standing::rouses::rouses` meets its contract. Assumes nothing.
+-- `standing::rouses::rouses` meets its contract.
+-- Assumes nothing.
 use borrow.Author.Needs.{needs}
 use Rattle.standing.proofs.rouses.rouses.Statement.{statement}
 use Rattle.standing.proofs.rouses.rouses.Tie as tie

@@ -1,4 +1,5 @@
--- `standing::rouses::rouses_by` meets its contract. Assumes nothing.
+-- `standing::rouses::rouses_by` meets its contract.
+-- Assumes nothing.
 use mathlib.Core.Path.{sym}
 use borrow.Author.Needs.{needs}
 use Rattle.standing.proofs.rouses.rouses_by.Statement.{statement}
@@ -17,7 +18,14 @@ leaves-requires : tie.Need-leaves-requires
 leaves-requires c κs = search needs
 
 returns : tie.Need-returns
-returns c = simp (c .leaves .ensures, c .before .holds .ensures, c .before .before .holding-of .ensures, sym (c .before .before .before .before .hands-off .ensures), c .before .before .before .if1 .taken)
+returns c =
+    simp (
+      c .leaves .ensures,
+      c .before .holds .ensures,
+      c .before .before .holding-of .ensures,
+      sym (c .before .before .before .before .hands-off .ensures),
+      c .before .before .before .if1 .taken,
+    )
 
 queue-locked-requires : tie.Need-queue-locked-requires
 queue-locked-requires c κs = search needs
@@ -26,7 +34,14 @@ owns-requires : tie.Need-owns-requires
 owns-requires c κs = search needs
 
 returns-2 : tie.Need-returns-2
-returns-2 c = simp (c .owns .ensures, sym (c .before .before .queue-locked .ensures), sym (c .before .before .before .before .hands-off .ensures), c .before .if2 .taken, c .before .before .before .if1 .left)
+returns-2 c =
+    simp (
+      c .owns .ensures,
+      sym (c .before .before .queue-locked .ensures),
+      sym (c .before .before .before .before .hands-off .ensures),
+      c .before .if2 .taken,
+      c .before .before .before .if1 .left,
+    )
 
 completed-of-requires : tie.Need-completed-of-requires
 completed-of-requires c κs = search needs
@@ -35,7 +50,15 @@ sees-requires : tie.Need-sees-requires
 sees-requires c κs = search needs
 
 returns-3 : tie.Need-returns-3
-returns-3 c = simp (c .sees .ensures, c .before .completed-of .ensures, sym (c .before .before .before .queue-locked .ensures), sym (c .before .before .before .before .before .hands-off .ensures), c .before .before .if2 .left, c .before .before .before .before .if1 .left)
+returns-3 c =
+    simp (
+      c .sees .ensures,
+      c .before .completed-of .ensures,
+      sym (c .before .before .before .queue-locked .ensures),
+      sym (c .before .before .before .before .before .hands-off .ensures),
+      c .before .before .if2 .left,
+      c .before .before .before .before .if1 .left,
+    )
 
 pub rouses-by-spec : {M : Type 1} → statement M
 rouses-by-spec =

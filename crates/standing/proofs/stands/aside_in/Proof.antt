@@ -1,4 +1,5 @@
--- `standing::stands::aside_in` meets its contract. Assumes nothing.
+-- `standing::stands::aside_in` meets its contract.
+-- Assumes nothing.
 use borrow.Author.Needs.{needs}
 use Rattle.standing.proofs.stands.aside_in.Statement.{statement}
 use Rattle.standing.proofs.stands.aside_in.Tie as tie

@@ -1,4 +1,5 @@
--- `standing::stands::held` meets its contract: the loop keeps by which of the threads passed the node is held. Assumes nothing.
+-- `standing::stands::held` meets its contract: the loop keeps by which of the threads passed the node is held.
+-- Assumes nothing.
 use Prim.Native.Nat.{_-_, _≤_}
 use mathlib.Core.Path.{_≡_, ap, _∙_}
 use native.Mathlib.Omega.{arith}

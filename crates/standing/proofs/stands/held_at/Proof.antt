@@ -1,4 +1,5 @@
--- `standing::stands::held_at` meets its contract. Assumes nothing.
+-- `standing::stands::held_at` meets its contract.
+-- Assumes nothing.
 use borrow.Author.Needs.{needs}
 use Rattle.standing.proofs.stands.held_at.Statement.{statement}
 use Rattle.standing.proofs.stands.held_at.Tie as tie

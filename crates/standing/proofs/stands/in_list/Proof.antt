@@ -1,4 +1,5 @@
--- `standing::stands::in_list` meets its contract. Assumes nothing.
+-- `standing::stands::in_list` meets its contract.
+-- Assumes nothing.
 use borrow.Author.Needs.{needs}
 use Rattle.standing.proofs.stands.in_list.Statement.{statement}
 use Rattle.standing.proofs.stands.in_list.Tie as tie

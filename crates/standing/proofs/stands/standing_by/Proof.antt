@@ -1,4 +1,5 @@
--- `standing::stands::standing_by` meets its contract. Assumes nothing.
+-- `standing::stands::standing_by` meets its contract.
+-- Assumes nothing.
 use mathlib.Core.Path.{sym}
 use borrow.Author.Needs.{needs}
 use Rattle.standing.proofs.stands.standing_by.Statement.{statement}

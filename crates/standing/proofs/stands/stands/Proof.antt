@@ -1,4 +1,5 @@
--- `standing::stands::stands` meets its contract. Assumes nothing.
+-- `standing::stands::stands` meets its contract.
+-- Assumes nothing.
 use borrow.Author.Needs.{needs}
 use Rattle.standing.proofs.stands.stands.Statement.{statement}
 use Rattle.standing.proofs.stands.stands.Tie as tie

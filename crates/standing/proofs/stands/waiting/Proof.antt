@@ -1,4 +1,5 @@
--- `standing::stands::waiting` meets its contract. Assumes nothing.
+-- `standing::stands::waiting` meets its contract.
+-- Assumes nothing.
 use borrow.Author.Needs.{needs}
 use Rattle.standing.proofs.stands.waiting.Statement.{statement}
 use Rattle.standing.proofs.stands.waiting.Tie as tie

@@ -1,4 +1,5 @@
--- `standing::stands::waiting_at` meets its contract. Assumes nothing.
+-- `standing::stands::waiting_at` meets its contract.
+-- Assumes nothing.
 use mathlib.Core.Path.{sym}
 use borrow.Author.Needs.{needs}
 use Rattle.standing.proofs.stands.waiting_at.Statement.{statement}
@@ -17,7 +18,13 @@ held-requires : tie.Need-held-requires
 held-requires c κs = search needs
 
 returns-3 : tie.Need-returns-3
-returns-3 c = simp (c .held .ensures, sym (c .before .before .in-queue .ensures), c .before .if2 .left, c .before .before .before .if1 .left)
+returns-3 c =
+    simp (
+      c .held .ensures,
+      sym (c .before .before .in-queue .ensures),
+      c .before .if2 .left,
+      c .before .before .before .if1 .left,
+    )
 
 pub waiting-at-spec : {M : Type 1} → statement M
 waiting-at-spec = tie.close (tie.spec returns in-queue-requires returns-2 held-requires returns-3)

@@ -1,4 +1,5 @@
--- `state::machine::made` meets its contract: no test, both arrays repeat the blank that its call promises. Assumes nothing.
+-- `state::machine::made` meets its contract: no test, both arrays repeat the blank that its call promises.
+-- Assumes nothing.
 use borrow.Author.Needs.{needs}
 use Rattle.state.proofs.machine.made.Statement.{statement}
 use Rattle.state.proofs.machine.made.Tie as tie

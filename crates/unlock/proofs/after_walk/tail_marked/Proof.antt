@@ -1,4 +1,6 @@
--- `unlock::after_walk::tail_marked` meets its contract: each arm by the mark that it matches, a writer's by DOWNGRADED too. Assumes nothing.
+-- `unlock::after_walk::tail_marked` meets its contract: each arm by the mark that it matches,
+-- a writer's by DOWNGRADED too.
+-- Assumes nothing.
 use borrow.Author.Needs.{needs}
 use mathlib.Core.Path.{sym}
 use Rattle.unlock.proofs.after_walk.tail_marked.Statement.{statement}
@@ -29,7 +31,15 @@ links-requires-2 : tie.Need-links-requires-2
 links-requires-2 c κs = search needs
 
 returns : tie.Need-returns
-returns c = let h1 = c .before .before .if1 .taken in simp (c .links2 .ensures, c .before .at2 .ensures, sym (c .before .before .before .downgraded .ensures), h1, c .before .before .before .before .enum-told3 .given .1)
+returns c =
+    let h1 = c .before .before .if1 .taken in
+    simp (
+      c .links2 .ensures,
+      c .before .at2 .ensures,
+      sym (c .before .before .before .downgraded .ensures),
+      h1,
+      c .before .before .before .before .enum-told3 .given .1,
+    )
 
 at-requires-3 : tie.Need-at-requires-3
 at-requires-3 c κs = search needs
@@ -44,7 +54,15 @@ returns-3 : tie.Need-returns-3
 returns-3 c = simp (c .links .ensures, c .before .at .ensures, c .before .before .enum-told2 .given .1)
 
 returns-4 : tie.Need-returns-4
-returns-4 c = let h1 = c .before .before .if1 .left in simp (c .links3 .ensures, c .before .at3 .ensures, sym (c .before .before .before .downgraded .ensures), h1, c .before .before .before .before .enum-told3 .given .1)
+returns-4 c =
+    let h1 = c .before .before .if1 .left in
+    simp (
+      c .links3 .ensures,
+      c .before .at3 .ensures,
+      sym (c .before .before .before .downgraded .ensures),
+      h1,
+      c .before .before .before .before .enum-told3 .given .1,
+    )
 
 pub tail-marked-spec : {M : Type 1} → statement M
 tail-marked-spec =

@@ -1,4 +1,5 @@
--- `unlock::after_walk::walk_head` meets its contract: no test, what its calls promise put together. Assumes nothing.
+-- `unlock::after_walk::walk_head` meets its contract: no test, what its calls promise put together.
+-- Assumes nothing.
 use borrow.Author.Needs.{needs}
 use Rattle.unlock.proofs.after_walk.walk_head.Statement.{statement}
 use Rattle.unlock.proofs.after_walk.walk_head.Tie as tie

@@ -1,4 +1,5 @@
--- `unlock::after_walk::walked` meets its contract: each arm by the purpose of the walk that it matches. Assumes nothing.
+-- `unlock::after_walk::walked` meets its contract: each arm by the purpose of the walk that it matches.
+-- Assumes nothing.
 use borrow.Author.Needs.{needs}
 use Rattle.unlock.proofs.after_walk.walked.Statement.{statement}
 use Rattle.unlock.proofs.after_walk.walked.Tie as tie

@@ -1,4 +1,5 @@
--- `unlock::unlock_queue::queue_cas` meets its contract: each answer by the tests that led to it. Assumes nothing.
+-- `unlock::unlock_queue::queue_cas` meets its contract: each answer by the tests that led to it.
+-- Assumes nothing.
 use borrow.Author.Needs.{needs}
 use mathlib.Core.Path.{sym}
 use Rattle.unlock.proofs.unlock_queue.queue_cas.Statement.{statement}
@@ -17,13 +18,22 @@ writes-requires : tie.Need-writes-requires
 writes-requires c κs = search needs
 
 returns : tie.Need-returns
-returns c = let h1 = c .before .before .before .if1 .taken in simp (c .writes .ensures, c .before .after-queue .ensures, c .before .before .clear-queue-locked .ensures, sym (c .before .before .before .before .agrees .ensures), h1)
+returns c =
+    let h1 = c .before .before .before .if1 .taken in
+    simp (
+      c .writes .ensures,
+      c .before .after-queue .ensures,
+      c .before .before .clear-queue-locked .ensures,
+      sym (c .before .before .before .before .agrees .ensures),
+      h1,
+    )
 
 walk-again-requires : tie.Need-walk-again-requires
 walk-again-requires c κs = search needs
 
 returns-2 : tie.Need-returns-2
-returns-2 c = let h1 = c .before .if1 .left in simp (c .walk-again .ensures, sym (c .before .before .agrees .ensures), h1)
+returns-2 c =
+    let h1 = c .before .if1 .left in simp (c .walk-again .ensures, sym (c .before .before .agrees .ensures), h1)
 
 pub queue-cas-spec : {M : Type 1} → statement M
 queue-cas-spec =

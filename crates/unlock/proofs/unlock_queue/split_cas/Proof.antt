@@ -1,4 +1,5 @@
--- `unlock::unlock_queue::split_cas` meets its contract: each answer by the tests that led to it. Assumes nothing.
+-- `unlock::unlock_queue::split_cas` meets its contract: each answer by the tests that led to it.
+-- Assumes nothing.
 use borrow.Author.Needs.{needs}
 use mathlib.Core.Path.{sym}
 use Rattle.unlock.proofs.unlock_queue.split_cas.Statement.{statement}
@@ -17,7 +18,15 @@ writes-requires : tie.Need-writes-requires
 writes-requires c κs = search needs
 
 returns : tie.Need-returns
-returns c = let h1 = c .before .before .before .if1 .taken in simp (c .writes .ensures, c .before .at .ensures, c .before .before .clear-queue-locked .ensures, sym (c .before .before .before .before .agrees .ensures), h1)
+returns c =
+    let h1 = c .before .before .before .if1 .taken in
+    simp (
+      c .writes .ensures,
+      c .before .at .ensures,
+      c .before .before .clear-queue-locked .ensures,
+      sym (c .before .before .before .before .agrees .ensures),
+      h1,
+    )
 
 at-requires-2 : tie.Need-at-requires-2
 at-requires-2 c κs = search needs
@@ -26,7 +35,9 @@ stays-requires : tie.Need-stays-requires
 stays-requires c κs = search needs
 
 returns-2 : tie.Need-returns-2
-returns-2 c = let h1 = c .before .before .before .if1 .left in simp (c .stays .ensures, c .before .at2 .ensures, sym (c .before .before .before .before .agrees .ensures), h1)
+returns-2 c =
+    let h1 = c .before .before .before .if1 .left in
+    simp (c .stays .ensures, c .before .at2 .ensures, sym (c .before .before .before .before .agrees .ensures), h1)
 
 pub split-cas-spec : {M : Type 1} → statement M
 split-cas-spec =

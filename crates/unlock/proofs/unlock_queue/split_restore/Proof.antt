@@ -1,4 +1,6 @@
--- `unlock::unlock_queue::split_restore` meets its contract: no test, the tail goes back into the node, and the walk starts from the word reported. Assumes nothing.
+-- `unlock::unlock_queue::split_restore` meets its contract: no test, the tail goes back into the node, and the walk
+-- starts from the word reported.
+-- Assumes nothing.
 use borrow.Author.Needs.{needs}
 use Rattle.unlock.proofs.unlock_queue.split_restore.Statement.{statement}
 use Rattle.unlock.proofs.unlock_queue.split_restore.Tie as tie

@@ -1,4 +1,5 @@
--- `unlock::unlock_queue::split_store` meets its contract: no test, what its calls promise put together. Assumes nothing.
+-- `unlock::unlock_queue::split_store` meets its contract: no test, what its calls promise put together.
+-- Assumes nothing.
 use borrow.Author.Needs.{needs}
 use Rattle.unlock.proofs.unlock_queue.split_store.Statement.{statement}
 use Rattle.unlock.proofs.unlock_queue.split_store.Tie as tie

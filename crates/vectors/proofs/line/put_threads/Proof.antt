@@ -1,4 +1,6 @@
--- `vectors::line::put_threads` is safe and ends. The loop keeps the buffer's length; the measure is how many threads are left. Assumes nothing.
+-- `vectors::line::put_threads` is safe and ends. The loop keeps the buffer's length;
+-- the measure is how many threads are left.
+-- Assumes nothing.
 use mathlib.Core.Path.{_≡_, refl}
 use Prim.Native.Nat.{_-_}
 use native.Mathlib.Omega.{arith}

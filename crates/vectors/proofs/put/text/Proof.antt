@@ -1,4 +1,5 @@
--- `vectors::put::text` is safe and ends. The loop keeps the buffer's length; the measure is how many bytes are left. Assumes nothing.
+-- `vectors::put::text` is safe and ends. The loop keeps the buffer's length; the measure is how many bytes are left.
+-- Assumes nothing.
 use mathlib.Core.Path.{_≡_, refl}
 use Prim.Native.Nat.{_-_}
 use native.Mathlib.Omega.{arith}

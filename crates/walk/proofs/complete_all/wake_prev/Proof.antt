@@ -1,4 +1,5 @@
--- `walk::complete_all::wake_prev` meets its contract: no test, what its calls promise put together. Assumes nothing.
+-- `walk::complete_all::wake_prev` meets its contract: no test, what its calls promise put together.
+-- Assumes nothing.
 use borrow.Author.Needs.{needs}
 use Rattle.walk.proofs.complete_all.wake_prev.Statement.{statement}
 use Rattle.walk.proofs.complete_all.wake_prev.Tie as tie

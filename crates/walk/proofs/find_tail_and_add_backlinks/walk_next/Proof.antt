@@ -1,4 +1,5 @@
--- `walk::find_tail_and_add_backlinks::walk_next` meets its contract: no test, what its calls promise put together. Assumes nothing.
+-- `walk::find_tail_and_add_backlinks::walk_next` meets its contract: no test, what its calls promise put together.
+-- Assumes nothing.
 use borrow.Author.Needs.{needs}
 use Rattle.walk.proofs.find_tail_and_add_backlinks.walk_next.Statement.{statement}
 use Rattle.walk.proofs.find_tail_and_add_backlinks.walk_next.Tie as tie

@@ -1,4 +1,5 @@
--- `walk::find_tail_and_add_backlinks::walk_prev` meets its contract: no test, what its calls promise put together. Assumes nothing.
+-- `walk::find_tail_and_add_backlinks::walk_prev` meets its contract: no test, what its calls promise put together.
+-- Assumes nothing.
 use borrow.Author.Needs.{needs}
 use Rattle.walk.proofs.find_tail_and_add_backlinks.walk_prev.Statement.{statement}
 use Rattle.walk.proofs.find_tail_and_add_backlinks.walk_prev.Tie as tie

@@ -1,4 +1,5 @@
--- `walk::find_tail_and_add_backlinks::walk_tail` meets its contract: each answer by the tests that led to it. Assumes nothing.
+-- `walk::find_tail_and_add_backlinks::walk_tail` meets its contract: each answer by the tests that led to it.
+-- Assumes nothing.
 use borrow.Author.Needs.{needs}
 use mathlib.Core.Path.{sym}
 use Rattle.walk.proofs.find_tail_and_add_backlinks.walk_tail.Statement.{statement}
@@ -14,7 +15,9 @@ stays-requires : tie.Need-stays-requires
 stays-requires c κs = search needs
 
 returns : tie.Need-returns
-returns c = let h1 = c .before .before .if1 .taken in simp (c .stays .ensures, c .before .at .ensures, sym (c .before .before .before .is-none .ensures), h1)
+returns c =
+    let h1 = c .before .before .if1 .taken in
+    simp (c .stays .ensures, c .before .at .ensures, sym (c .before .before .before .is-none .ensures), h1)
 
 at-requires-2 : tie.Need-at-requires-2
 at-requires-2 c κs = search needs
@@ -23,7 +26,9 @@ stays-requires-2 : tie.Need-stays-requires-2
 stays-requires-2 c κs = search needs
 
 returns-2 : tie.Need-returns-2
-returns-2 c = let h1 = c .before .before .if1 .left in simp (c .stays2 .ensures, c .before .at2 .ensures, sym (c .before .before .before .is-none .ensures), h1)
+returns-2 c =
+    let h1 = c .before .before .if1 .left in
+    simp (c .stays2 .ensures, c .before .at2 .ensures, sym (c .before .before .before .is-none .ensures), h1)
 
 pub walk-tail-spec : {M : Type 1} → statement M
 walk-tail-spec =

@@ -1,4 +1,6 @@
--- `state::access::Access::of` meets its contract: each place's arm is the definition's case, by what the arm's calls promise. Assumes nothing.
+-- `state::access::Access::of` meets its contract: each place's arm is the definition's case,
+-- by what the arm's calls promise.
+-- Assumes nothing.
 use borrow.Author.Needs.{needs}
 use Rattle.state.specs.Access.{accessOf}
 use Rattle.state.proofs.access.Access.of.Statement.{statement}

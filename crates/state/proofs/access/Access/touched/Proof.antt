@@ -1,4 +1,5 @@
--- `state::access::Access::touched` meets its contract: each location's arm is the definition's case. Assumes nothing.
+-- `state::access::Access::touched` meets its contract: each location's arm is the definition's case.
+-- Assumes nothing.
 use borrow.Author.Needs.{needs}
 use Rattle.state.proofs.access.Access.touched.Statement.{statement}
 use Rattle.state.proofs.access.Access.touched.Tie as tie

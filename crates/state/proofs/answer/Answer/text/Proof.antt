@@ -1,4 +1,5 @@
--- `state::answer::Answer::text` meets its contract: each answer's bytes and length are what the definition computes to. Assumes nothing.
+-- `state::answer::Answer::text` meets its contract: each answer's bytes and length are what the definition computes to.
+-- Assumes nothing.
 use borrow.Author.Needs.{needs}
 use Rattle.state.proofs.answer.Answer.text.Statement.{statement}
 use Rattle.state.proofs.answer.Answer.text.Tie as tie

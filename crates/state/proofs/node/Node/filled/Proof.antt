@@ -1,4 +1,5 @@
--- `state::node::Node::filled` meets its contract: the test of QUEUED decides about the tail alone. Assumes nothing.
+-- `state::node::Node::filled` meets its contract: the test of QUEUED decides about the tail alone.
+-- Assumes nothing.
 use borrow.Author.Needs.{needs}
 use mathlib.Core.Path.{sym}
 use Rattle.state.proofs.node.Node.filled.Statement.{statement}
@@ -14,10 +15,19 @@ queued-requires : tie.Need-queued-requires
 queued-requires c κs = search needs
 
 returns : tie.Need-returns
-returns c = let h1 = c .if1 .taken in simp (sym (c .before .queued .ensures), c .before .before .before .without-flags .ensures, h1)
+returns c =
+    let h1 = c .if1 .taken in
+    simp (sym (c .before .queued .ensures), c .before .before .before .without-flags .ensures, h1)
 
 returns-2 : tie.Need-returns-2
-returns-2 c = let h1 = c .if1 .left in simp (sym (c .before .queued .ensures), c .before .before .node .ensures, c .before .before .before .without-flags .ensures, h1)
+returns-2 c =
+    let h1 = c .if1 .left in
+    simp (
+      sym (c .before .queued .ensures),
+      c .before .before .node .ensures,
+      c .before .before .before .without-flags .ensures,
+      h1,
+    )
 
 pub filled-spec : {M : Type 1} → statement M
 filled-spec =

@@ -1,4 +1,6 @@
--- `state::view::Next::after_queue` meets its contract: the waiter's arm and the leaver's are the definition's two cases. Assumes nothing.
+-- `state::view::Next::after_queue` meets its contract: the waiter's arm and the leaver's are
+-- the definition's two cases.
+-- Assumes nothing.
 use borrow.Author.Needs.{needs}
 use Rattle.state.proofs.view.Next.after_queue.Statement.{statement}
 use Rattle.state.proofs.view.Next.after_queue.Tie as tie

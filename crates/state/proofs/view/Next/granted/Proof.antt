@@ -1,4 +1,5 @@
--- `state::view::Next::granted` meets its contract: each answer by the tests that led to it. Assumes nothing.
+-- `state::view::Next::granted` meets its contract: each answer by the tests that led to it.
+-- Assumes nothing.
 use borrow.Author.Needs.{needs}
 use Rattle.state.proofs.view.Next.granted.Statement.{statement}
 use Rattle.state.proofs.view.Next.granted.Tie as tie

@@ -1,4 +1,5 @@
--- `state::view::Next::walk_from` meets its contract: no test, the head is the node of the word by to_node's promise. Assumes nothing.
+-- `state::view::Next::walk_from` meets its contract: no test, the head is the node of the word by to_node's promise.
+-- Assumes nothing.
 use borrow.Author.Needs.{needs}
 use Rattle.state.proofs.view.Next.walk_from.Statement.{statement}
 use Rattle.state.proofs.view.Next.walk_from.Tie as tie

@@ -1,4 +1,5 @@
--- `state::view::View::agrees` meets its contract: each answer by the tests that led to it. Assumes nothing.
+-- `state::view::View::agrees` meets its contract: each answer by the tests that led to it.
+-- Assumes nothing.
 use borrow.Author.Needs.{needs}
 use Rattle.word.specs.Cases.{cases}
 use Rattle.state.proofs.view.View.agrees.Statement.{statement}

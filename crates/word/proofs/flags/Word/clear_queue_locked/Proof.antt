@@ -1,4 +1,5 @@
--- `word::flags::Word::clear_queue_locked` meets its contract: a word with the flag is at least the flag. Assumes nothing.
+-- `word::flags::Word::clear_queue_locked` meets its contract: a word with the flag is at least the flag.
+-- Assumes nothing.
 use borrow.Author.Needs.{needs}
 use Rattle.word.specs.Cases.{cases, told}
 use Rattle.word.specs.Laws.{flag-least}

@@ -1,4 +1,6 @@
--- `word::flags::Word::read_lock` meets its contract: each answer by the tests that led to it, the last of them read as a sum. Assumes nothing.
+-- `word::flags::Word::read_lock` meets its contract: each answer by the tests that led to it,
+-- the last of them read as a sum.
+-- Assumes nothing.
 use Prim.Native.Nat.{_+_, _^_, _≤_, _<_}
 use native.Mathlib.Omega.{arith}
 use borrow.Author.Needs.{needs}
@@ -20,7 +22,8 @@ sub-if3 : tie.Need-sub-if3
 sub-if3 c = search needs
 
 returns-3 : tie.Need-returns-3
-returns-3 c = let full : 2 ^ 64 ≤ c .before .before .before .before .args .self .0 + SINGLE = omega arith in search cases
+returns-3 c =
+    let full : 2 ^ 64 ≤ c .before .before .before .before .args .self .0 + SINGLE = omega arith in search cases
 
 add-more : tie.Need-add-more
 add-more c = search needs

@@ -1,4 +1,5 @@
--- `word::flags::Word::read_unlock` meets its contract: each answer by the tests that led to it. Assumes nothing.
+-- `word::flags::Word::read_unlock` meets its contract: each answer by the tests that led to it.
+-- Assumes nothing.
 use borrow.Author.Tests.{not-true, not-false}
 use borrow.Author.Needs.{needs}
 use Rattle.word.specs.Cases.{cases}
@@ -33,7 +34,8 @@ clear-locked-requires : tie.Need-clear-locked-requires
 clear-locked-requires c κs = search needs
 
 returns-4 : tie.Need-returns-4
-returns-4 c = simp (c .clear-locked .ensures, c .before .clear-downgraded .ensures) (search (cases, not-true, not-false))
+returns-4 c =
+    simp (c .clear-locked .ensures, c .before .clear-downgraded .ensures) (search (cases, not-true, not-false))
 
 returns-5 : tie.Need-returns-5
 returns-5 c = search (cases, not-true, not-false)

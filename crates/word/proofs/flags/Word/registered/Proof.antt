@@ -1,4 +1,6 @@
--- `word::flags::Word::registered` meets its contract: no sum wraps, since the node is a thread plus one and each flag is kept or 0. Assumes nothing.
+-- `word::flags::Word::registered` meets its contract: no sum wraps,
+-- since the node is a thread plus one and each flag is kept or 0.
+-- Assumes nothing.
 use borrow.Author.Needs.{needs}
 use native.Mathlib.Omega.{arith}
 use Rattle.word.proofs.flags.Word.registered.Statement.{statement}
@@ -45,7 +47,15 @@ returns c =
     let d = c .before .before .before .before .before in
     let l = c .before .before .before in
     let q = c .before in
-    simp (d .before .before .node .ensures, d .kept .ensures .0, d .before .downgraded .ensures, l .kept2 .ensures .0, l .before .locked .ensures, q .kept3 .ensures .0, q .before .queued .ensures)
+    simp (
+      d .before .before .node .ensures,
+      d .kept .ensures .0,
+      d .before .downgraded .ensures,
+      l .kept2 .ensures .0,
+      l .before .locked .ensures,
+      q .kept3 .ensures .0,
+      q .before .queued .ensures,
+    )
 
 pub registered-spec : {M : Type 1} → statement M
 registered-spec =

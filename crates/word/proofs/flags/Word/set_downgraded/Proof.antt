@@ -1,4 +1,5 @@
--- `word::flags::Word::set_downgraded` meets its contract: a word without the flag has room for it. Assumes nothing.
+-- `word::flags::Word::set_downgraded` meets its contract: a word without the flag has room for it.
+-- Assumes nothing.
 use native.Mathlib.Omega.{arith}
 use borrow.Author.Needs.{needs}
 use Rattle.word.specs.Cases.{cases, told}

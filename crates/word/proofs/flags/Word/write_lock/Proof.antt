@@ -1,4 +1,5 @@
--- `word::flags::Word::write_lock` meets its contract: each answer by the tests that led to it. Assumes nothing.
+-- `word::flags::Word::write_lock` meets its contract: each answer by the tests that led to it.
+-- Assumes nothing.
 use borrow.Author.Needs.{needs}
 use Rattle.word.specs.Cases.{cases}
 use Rattle.word.proofs.flags.Word.write_lock.Statement.{statement}

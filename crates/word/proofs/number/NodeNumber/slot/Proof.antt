@@ -1,4 +1,5 @@
--- `word::number::NodeNumber::slot` meets its contract: each answer by the tests that led to it. Assumes nothing.
+-- `word::number::NodeNumber::slot` meets its contract: each answer by the tests that led to it.
+-- Assumes nothing.
 use Rattle.word.specs.Cases.{cases}
 use Rattle.word.proofs.number.NodeNumber.slot.Statement.{statement}
 use Rattle.word.proofs.number.NodeNumber.slot.Tie as tie
