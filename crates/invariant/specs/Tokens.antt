@@ -1,5 +1,5 @@
 -- Tokens from outside: the invariant survives any change of tokens that leaves one to whoever is asleep and completed.
--- So a token may be set anywhere, and cleared wherever its thread is not asleep. A completion's own token is Wake.antt's.
+-- So a token may be set anywhere, and cleared wherever its thread is not asleep. A completion's own: Wake.antt.
 -- Assumes nothing.
 use Prim.Native.Nat.{ℕ, zero, suc}
 use mathlib.Core.Bool.{Bool, true}

@@ -1,4 +1,5 @@
--- Laws of a line and of a number's digits: text after text; a line's text is what was put in it, where it fits. Assumes nothing.
+-- Laws of a line and of a number's digits: text after text; a line's text is what was put in it, where it fits.
+-- Assumes nothing.
 use Prim.Native.Nat.{ℕ, zero, suc, _+_, _-_, _/_, _%_, _≤_, _<_}
 use mathlib.Core.Path.{_≡_, refl, sym, ap, _∙_}
 use mathlib.Core.List.{List, [], _∷_, _++_}
@@ -33,7 +34,9 @@ unfolding putAll
 put-end l xs b = put-both l xs (b ∷ [])
 
 -- one byte more of what is read in order
-pub put-next : (l : Line) (s : List ℕ) (i : ℕ) → i < length s → putOf (putAll l (take i s)) (getD s i 0) ≡ putAll l (take (i + 1) s)
+pub put-next : (l : Line) (s : List ℕ) (i : ℕ)
+    → i < length s
+    → putOf (putAll l (take i s)) (getD s i 0) ≡ putAll l (take (i + 1) s)
 put-next l s i h =
     let e : suc i ≡ i + 1 = omega arith in
     put-end l (take i s) (getD s i 0) ∙ ap (putAll l) (sym (take-suc s i 0 h) ∙ ap (λ (k : ℕ). take k s) e)
@@ -50,7 +53,10 @@ unfolding decimalBy
 digits-one zero n h k = absurd (omega (arith, h))
 digits-one (suc places) n h k = pick-yes _ _ _ _ (lt-ltb n 10 k) refl
 
-pub digits-more : (places n : ℕ) → 0 < places → 10 ≤ n → decimalBy (places - 1) (n / 10) ++ ((48 + n % 10) ∷ []) ≡ decimalBy places n
+pub digits-more : (places n : ℕ)
+    → 0 < places
+    → 10 ≤ n
+    → decimalBy (places - 1) (n / 10) ++ ((48 + n % 10) ∷ []) ≡ decimalBy places n
 unfolding decimalBy
 digits-more zero n h k = absurd (omega (arith, h))
 digits-more (suc places) n h k =

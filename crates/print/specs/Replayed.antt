@@ -22,7 +22,8 @@ wokenText (Thread t) = decimal (t .0)
 -- event, thread, answer, woken, word
 abbrev pub eventText : ℕ → ThreadNumber → Answer → Owner → Word → List ℕ
 eventText at thread answer woken word =
-    decimal at ++ ascii " " ++ decimal (thread .0) ++ ascii " " ++ answerWord answer ++ ascii " " ++ wokenText woken ++ ascii " " ++ decimal (word .0)
+    decimal at ++ ascii " " ++ decimal (thread .0) ++ ascii " " ++ answerWord answer ++ ascii " "
+    ++ wokenText woken ++ ascii " " ++ decimal (word .0)
 
 abbrev pub endText : ℕ → List ℕ
 endText run = ascii "end " ++ decimal run

@@ -101,7 +101,8 @@ finishes-at-the-first-step-refuted holds =
 
 -- waking on a retracted downgrade: a read_unlock that clears DOWNGRADED wakes a thread
 abbrev pub wakesOnARetractedDowngrade : Program
-wakesOnARetractedDowngrade = programOf (changedAt 22 (λ v s. pick (downgraded (v .word)) (waking (Somebody (thread 0)) s) s))
+wakesOnARetractedDowngrade =
+    programOf (changedAt 22 (λ v s. pick (downgraded (v .word)) (waking (Somebody (thread 0)) s) s))
 
 isNobody : Owner → Bool
 isNobody Nobody = true

@@ -30,7 +30,7 @@ use Rattle.safety.specs.Intervals.{up, up-more, up-same, node-is}
 use Rattle.safety.specs.Held.{queue-is, held-is}
 use Rattle.safety.specs.Statements.{Event, after, effectIn, ListsAfter, Lists, Move}
 
--- the tickets of the queue, and of an interval, oldestSpan first
+-- the tickets of the queue, and of an interval, oldest first
 abbrev pub queueList : Ghost → List NodeNumber
 queueList g = up (g .log) (g .lo) (g .hi - g .lo)
 
@@ -66,7 +66,7 @@ module _ (g : Ghost) (wait : ℕ → Bool) (p : Parts g wait) (t : ℕ) where
     pub moves : HeldAfter e (queueList g) (heldList g t) (queueList g′) (heldList g′ t)
     pub others : (u : ℕ) → u ≢ t → heldList g′ u ≡ heldList g u
 
-  -- an interval of none, of one, and one's oldestSpan apart
+  -- an interval of none, of one, and one's oldest apart
   none-held : (s : Span) → s .end ≤ s .beg → spanList (g .log) s ≡ []
   none-held s e = let z : s .end - s .beg ≡ 0 = omega arith in rw z
 

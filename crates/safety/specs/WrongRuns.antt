@@ -276,7 +276,8 @@ walks-always-refuted holds = holds 2 registered .unlocked refl 1 refl
 
 -- 'Completing stores completed and unparks': here it sets no token
 abbrev completing-sets-no-token : Program
-completing-sets-no-token = changing (At.WakeStore Leaver none none) (from (λ v c. completes v (c .node) Nobody (nextOf c)))
+completing-sets-no-token =
+    changing (At.WakeStore Leaver none none) (from (λ v c. completes v (c .node) Nobody (nextOf c)))
 
 pub completing-sets-no-token-refuted : NobodyStuck completing-sets-no-token → ⊥
 unfolding ranBy advanceOf accessOf markedOf which
@@ -305,7 +306,8 @@ reads-prev-after-completing-touches-refuted holds = ⊎-elim own waits (holds 2 
     waits : Waits (reachedBy reads-prev-after-completing 2 (unlocking 7)) (node 2) → ⊥
     waits w =
         let z : w .0 ≡ 1 = let y : 2 ≡ w .0 + 1 = ap (λ (k : NodeNumber). k .0) (w .1) in omega (arith, y) in
-        false≢true (sym (subst (λ u. nodeAt (reachedBy reads-prev-after-completing 2 (unlocking 7)) u .completed ≡ false) z
+        false≢true
+        (sym (subst (λ u. nodeAt (reachedBy reads-prev-after-completing 2 (unlocking 7)) u .completed ≡ false) z
         (w .2 .uncompleted)))
 
 -- ── replays ──

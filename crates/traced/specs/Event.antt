@@ -1,4 +1,6 @@
--- The trace's lines as text (docs/TRACE.md): an event's line, the waiters newest first, the reader count and where it sits. Assumes nothing.
+-- The trace's lines as text (docs/TRACE.md): an event's line, the waiters newest first, the reader count and where it
+-- sits.
+-- Assumes nothing.
 use Prim.Native.Nat.{ℕ, zero, suc}
 use mathlib.Core.List.{List, [], _++_}
 use lib.Dec.{eqb}

@@ -14,7 +14,8 @@ use Rattle.state.specs.declared.machine.Thread.{Thread}
 use Rattle.standing.specs.Stands.{standingOf}
 use Rattle.standing.specs.Rouses.{rousesOf}
 use Rattle.standing.specs.declared.stands.Standing.{Standing}
-use Rattle.standing.specs.declared.stands.Standing.the-variants.{NotWaiting, Completed, InQueue, SetAside, InList, Nowhere}
+use Rattle.standing.specs.declared.stands.Standing.the-variants.{NotWaiting, Completed, InQueue, SetAside, InList}
+use Rattle.standing.specs.declared.stands.Standing.the-variants.{Nowhere}
 use Rattle.print.specs.Text.{ascii, decimal}
 use Rattle.traced.specs.Place.{placeText}
 
@@ -44,7 +45,8 @@ standingText m Nowhere = ascii ", in no list"
 
 abbrev pub recordText : ThreadNumber → Thread → List ℕ
 recordText t r =
-    ascii "thread " ++ decimal (t .0) ++ ascii " " ++ placeText (r .place) ++ holdingText (r .holding) ++ tokenText (r .token)
+    ascii "thread " ++ decimal (t .0) ++ ascii " " ++ placeText (r .place)
+    ++ holdingText (r .holding) ++ tokenText (r .token)
 
 -- blank where there is no such thread
 abbrev pub recordOf : Machine → ℕ → Thread

@@ -2,7 +2,8 @@
 ghost use mathlib.Core.Path.{_≡_};
 ghost use Rattle.print.specs.Line.{putAll, lineOf};
 ghost use Rattle.print.specs.Text.{decimal};
-ghost use Rattle.traced.specs.Thread.{holdingText, tokenText, rouserText, rousersText, standingText, recordText, recordOf, threadText};
+ghost use Rattle.traced.specs.Thread.{holdingText, tokenText, rouserText, rousersText, standingText};
+ghost use Rattle.traced.specs.Thread.{recordText, recordOf, threadText};
 use crate::place::put_place;
 use print::Line;
 use standing::Standing;

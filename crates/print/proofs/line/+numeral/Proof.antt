@@ -66,7 +66,9 @@ numeral-returns-2 : (t : ℕ) → numeral-lts.Need-returns-2 (
 ) (numeral-at t) numeral.Post
 numeral-returns-2 t c =
     let a = c .before .before .before .args in
-    c .byte .ensures ∙ (put-one (a .line) (48 + a .n) ∙ ap (putAll (a .line)) (digits-one (a .places) (a .n) (omega arith) (omega arith)))
+    c .byte .ensures
+    ∙ (put-one (a .line) (48 + a .n)
+    ∙ ap (putAll (a .line)) (digits-one (a .places) (a .n) (omega arith) (omega arith)))
 
 numeral-sub-numeral : (t : ℕ) → numeral-lts.Need-sub-numeral (
   byte-reads.Asked,
@@ -118,7 +120,10 @@ numeral-returns-3 t c =
     let a = c .before .before .before .before .args in
     let d = decimalBy (a .places - 1) (a .n / 10) in
     let b = 48 + a .n % 10 in
-    c .byte2 .ensures ∙ (ap (λ x. putOf x b) (c .before .numeral .ensures) ∙ (put-end (a .line) d b ∙ ap (putAll (a .line)) (digits-more (a .places) (a .n) (omega arith) (omega arith))))
+    c .byte2 .ensures
+    ∙ (ap (λ x. putOf x b) (c .before .numeral .ensures)
+    ∙ (put-end (a .line) d b
+    ∙ ap (putAll (a .line)) (digits-more (a .places) (a .n) (omega arith) (omega arith))))
 
 pub +numeral-spec : {M : Type 1} → statement M
 +numeral-spec = close μ-numeral λ t. numeral-lts.spec (

@@ -21,7 +21,8 @@ add-result : tie.Need-add-result
 add-result c =
     let f = c .before .before .before .before .before in
     let a = f .before .before .args in
-    let room = fits-room (length (a .page .now)) (a .at) (a .line .length) (sym (f .fits2 .ensures) ∙ c .before .before .before .before .if1 .taken) in
+    let tested = sym (f .fits2 .ensures) ∙ c .before .before .before .before .if1 .taken in
+    let room = fits-room (length (a .page .now)) (a .at) (a .line .length) tested in
     let size = f .before .before .good .0 in
     omega (arith, room, size)
 

@@ -50,7 +50,21 @@ decimal-requires-3 : tie.Need-decimal-requires-3
 decimal-requires-3 c κs = search needs
 
 returns : tie.Need-returns
-returns c = simp (c .decimal3 .ensures, c .before .text4 .ensures, c .before .before .before .put-woken .ensures, c .before .before .before .before .text3 .ensures, c .before .before .before .before .before .before .put-answer .ensures, c .before .before .before .before .before .before .before .text2 .ensures, c .before .before .before .before .before .before .before .before .before .decimal2 .ensures, c .before .before .before .before .before .before .before .before .before .before .before .text .ensures, c .before .before .before .before .before .before .before .before .before .before .before .before .before .decimal .ensures, c .before .before .before .before .before .before .before .before .before .before .before .before .before .before .blank .ensures, put-both)
+returns c =
+    let early = c .before .before .before .before .before .before .before .before .before in
+    simp (
+      c .decimal3 .ensures,
+      c .before .text4 .ensures,
+      c .before .before .before .put-woken .ensures,
+      c .before .before .before .before .text3 .ensures,
+      c .before .before .before .before .before .before .put-answer .ensures,
+      c .before .before .before .before .before .before .before .text2 .ensures,
+      early .decimal2 .ensures,
+      early .before .before .text .ensures,
+      early .before .before .before .before .decimal .ensures,
+      early .before .before .before .before .before .blank .ensures,
+      put-both,
+    )
 
 pub event-line-spec : {M : Type 1} → statement M
 event-line-spec =

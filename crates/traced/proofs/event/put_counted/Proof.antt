@@ -33,7 +33,16 @@ put-raw-requires : tie.Need-put-raw-requires
 put-raw-requires c κs = search needs
 
 returns-2 : tie.Need-returns-2
-returns-2 c = simp (c .put-raw .ensures, c .before .put-sits .ensures, c .before .before .decimal .ensures, c .before .before .before .text2 .ensures, sym (c .before .before .before .before .before .before .is-zero .ensures), c .before .before .before .before .before .if1 .left, put-both)
+returns-2 c =
+    simp (
+      c .put-raw .ensures,
+      c .before .put-sits .ensures,
+      c .before .before .decimal .ensures,
+      c .before .before .before .text2 .ensures,
+      sym (c .before .before .before .before .before .before .is-zero .ensures),
+      c .before .before .before .before .before .if1 .left,
+      put-both,
+    )
 
 pub put-counted-spec : {M : Type 1} → statement M
 put-counted-spec =

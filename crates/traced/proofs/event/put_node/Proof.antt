@@ -21,7 +21,14 @@ decimal-requires : tie.Need-decimal-requires
 decimal-requires c κs = search needs
 
 returns-2 : tie.Need-returns-2
-returns-2 c = simp (c .decimal .ensures, c .before .text .ensures, sym (c .before .before .before .before .is-none .ensures), c .before .before .before .if1 .left, put-both)
+returns-2 c =
+    simp (
+      c .decimal .ensures,
+      c .before .text .ensures,
+      sym (c .before .before .before .before .is-none .ensures),
+      c .before .before .before .if1 .left,
+      put-both,
+    )
 
 pub put-node-spec : {M : Type 1} → statement M
 put-node-spec =

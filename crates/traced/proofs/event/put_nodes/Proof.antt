@@ -20,7 +20,8 @@ abbrev μ-loop : tie.MeasureT-loop
 μ-loop w all₀ i₀ all i = threadLimit - i
 
 loop-holds : tie.Need-loop-holds Inv-loop μ-loop
-loop-holds c = (omega arith, sym (put-none (c .args .line)) ∙ ap (putAll (c .args .line)) (nodes-none (c .args .t2 .nodes)))
+loop-holds c =
+    (omega arith, sym (put-none (c .args .line)) ∙ ap (putAll (c .args .line)) (nodes-none (c .args .t2 .nodes)))
 
 mul-put-node : tie.Need-mul-put-node Inv-loop μ-loop
 mul-put-node c = omega arith
@@ -45,7 +46,9 @@ loop-again c =
     let next = nodeText (getD ns (l .i) none) in (
       omega arith,
       c .put-node .ensures
-          ∙ (ap (λ x. putAll x next) (l .inv .1) ∙ (put-both (a .line) (nodesText (l .i) ns) next ∙ ap (putAll (a .line)) (nodes-more (l .i) ns))),
+          ∙ (ap (λ x. putAll x next) (l .inv .1)
+          ∙ (put-both (a .line) (nodesText (l .i) ns) next
+          ∙ ap (putAll (a .line)) (nodes-more (l .i) ns))),
     )
 
 returns : tie.Need-returns Inv-loop μ-loop

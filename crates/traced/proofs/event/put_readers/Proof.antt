@@ -23,10 +23,22 @@ put-counted-requires : tie.Need-put-counted-requires
 put-counted-requires c κs = search needs
 
 returns : tie.Need-returns
-returns c = simp (c .put-refusal .ensures, c .before .before .before .before .text .ensures, c .before .before .verdict .given .1, put-both)
+returns c =
+    simp (
+      c .put-refusal .ensures,
+      c .before .before .before .before .text .ensures,
+      c .before .before .verdict .given .1,
+      put-both,
+    )
 
 returns-2 : tie.Need-returns-2
-returns-2 c = simp (c .put-counted .ensures, c .before .before .before .text .ensures, c .before .enum-told .given .1, put-both)
+returns-2 c =
+    simp (
+      c .put-counted .ensures,
+      c .before .before .before .text .ensures,
+      c .before .enum-told .given .1,
+      put-both,
+    )
 
 pub put-readers-spec : {M : Type 1} → statement M
 put-readers-spec =

@@ -47,7 +47,13 @@ returns-3 : tie.Need-returns-3
 returns-3 c = simp (c .text2 .ensures, c .before .before .enum-told3 .given .1)
 
 returns-4 : tie.Need-returns-4
-returns-4 c = simp (c .decimal .ensures, c .before .text3 .ensures, c .before .before .before .before .sits .given .1, put-both)
+returns-4 c =
+    simp (
+      c .decimal .ensures,
+      c .before .text3 .ensures,
+      c .before .before .before .before .sits .given .1,
+      put-both,
+    )
 
 pub put-sits-spec : {M : Type 1} → statement M
 put-sits-spec =

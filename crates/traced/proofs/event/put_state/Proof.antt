@@ -17,7 +17,14 @@ put-readers-requires : tie.Need-put-readers-requires
 put-readers-requires c κs = search needs
 
 returns : tie.Need-returns
-returns c = simp (c .put-readers .ensures, c .before .reader-count .ensures, c .before .before .put-waiters .ensures, c .before .before .before .listing .ensures, put-both)
+returns c =
+    simp (
+      c .put-readers .ensures,
+      c .before .reader-count .ensures,
+      c .before .before .put-waiters .ensures,
+      c .before .before .before .listing .ensures,
+      put-both,
+    )
 
 pub put-state-spec : {M : Type 1} → statement M
 put-state-spec =

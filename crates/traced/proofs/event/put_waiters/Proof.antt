@@ -23,10 +23,22 @@ put-listed-requires : tie.Need-put-listed-requires
 put-listed-requires c κs = search needs
 
 returns : tie.Need-returns
-returns c = simp (c .put-refusal .ensures, c .before .before .before .before .text .ensures, c .before .before .verdict .given .1, put-both)
+returns c =
+    simp (
+      c .put-refusal .ensures,
+      c .before .before .before .before .text .ensures,
+      c .before .before .verdict .given .1,
+      put-both,
+    )
 
 returns-2 : tie.Need-returns-2
-returns-2 c = simp (c .put-listed .ensures, c .before .before .before .text .ensures, c .before .enum-told .given .1, put-both)
+returns-2 c =
+    simp (
+      c .put-listed .ensures,
+      c .before .before .before .text .ensures,
+      c .before .enum-told .given .1,
+      put-both,
+    )
 
 pub put-waiters-spec : {M : Type 1} → statement M
 put-waiters-spec =

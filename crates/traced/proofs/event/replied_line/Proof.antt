@@ -23,7 +23,13 @@ refused-line-requires : tie.Need-refused-line-requires
 refused-line-requires c κs = search needs
 
 returns : tie.Need-returns
-returns c = simp (c .put-state .ensures, c .before .event-line .ensures, c .before .before .before .reply .given .1, put-both)
+returns c =
+    simp (
+      c .put-state .ensures,
+      c .before .event-line .ensures,
+      c .before .before .before .reply .given .1,
+      put-both,
+    )
 
 returns-2 : tie.Need-returns-2
 returns-2 c = simp (c .refused-line .ensures, c .before .number .ensures, c .before .before .before .reply2 .given .1)

@@ -18,7 +18,14 @@ decimal-requires : tie.Need-decimal-requires
 decimal-requires c κs = search needs
 
 returns : tie.Need-returns
-returns c = simp (c .decimal .ensures, c .before .text .ensures, sym (c .before .before .before .before .rouses .ensures), c .before .before .before .if1 .taken, put-both)
+returns c =
+    simp (
+      c .decimal .ensures,
+      c .before .text .ensures,
+      sym (c .before .before .before .before .rouses .ensures),
+      c .before .before .before .if1 .taken,
+      put-both,
+    )
 
 returns-2 : tie.Need-returns-2
 returns-2 c = simp (sym (c .before .rouses .ensures), c .if1 .left, put-none)

@@ -1,4 +1,5 @@
--- `traced::thread::put_rousers` meets its contract: the loop keeps that those of the threads passed are put. Assumes nothing.
+-- `traced::thread::put_rousers` meets its contract: the loop keeps that those of the threads passed are put.
+-- Assumes nothing.
 use Prim.Native.Nat.{_-_, _≤_}
 use mathlib.Core.Path.{_≡_, sym, ap, _∙_}
 use native.Mathlib.Omega.{arith}
@@ -35,7 +36,9 @@ loop-again c =
     let next = rouserText (a .m) (l .k) in (
       omega arith,
       c .put-rouser .ensures
-          ∙ (ap (λ x. putAll x next) (l .inv .1) ∙ (put-both (a .line) (rousersText (l .k) (a .m)) next ∙ ap (putAll (a .line)) (rousers-more (l .k) (a .m)))),
+          ∙ (ap (λ x. putAll x next) (l .inv .1)
+          ∙ (put-both (a .line) (rousersText (l .k) (a .m)) next
+          ∙ ap (putAll (a .line)) (rousers-more (l .k) (a .m)))),
     )
 
 returns : tie.Need-returns Inv-loop μ-loop

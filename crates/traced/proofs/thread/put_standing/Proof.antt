@@ -68,13 +68,31 @@ returns-2 : tie.Need-returns-2
 returns-2 c = simp (c .text .ensures, c .before .before .enum-told2 .given .1)
 
 returns-3 : tie.Need-returns-3
-returns-3 c = simp (c .put-rousers .ensures, c .before .text2 .ensures, c .before .before .before .enum-told3 .given .1, put-both)
+returns-3 c =
+    simp (
+      c .put-rousers .ensures,
+      c .before .text2 .ensures,
+      c .before .before .before .enum-told3 .given .1,
+      put-both,
+    )
 
 returns-4 : tie.Need-returns-4
-returns-4 c = simp (c .put-number .ensures, c .before .text3 .ensures, c .before .before .before .before .standing .given .1, put-both)
+returns-4 c =
+    simp (
+      c .put-number .ensures,
+      c .before .text3 .ensures,
+      c .before .before .before .before .standing .given .1,
+      put-both,
+    )
 
 returns-5 : tie.Need-returns-5
-returns-5 c = simp (c .put-number2 .ensures, c .before .text4 .ensures, c .before .before .before .before .standing2 .given .1, put-both)
+returns-5 c =
+    simp (
+      c .put-number2 .ensures,
+      c .before .text4 .ensures,
+      c .before .before .before .before .standing2 .given .1,
+      put-both,
+    )
 
 returns-6 : tie.Need-returns-6
 returns-6 c = simp (c .text5 .ensures, c .before .before .enum-told4 .given .1)

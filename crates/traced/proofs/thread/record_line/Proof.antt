@@ -32,7 +32,17 @@ put-token-requires : tie.Need-put-token-requires
 put-token-requires c κs = search needs
 
 returns : tie.Need-returns
-returns c = simp (c .put-token .ensures, c .before .put-holding .ensures, c .before .before .put-place .ensures, c .before .before .before .text2 .ensures, c .before .before .before .before .before .put-number .ensures, c .before .before .before .before .before .before .text .ensures, c .before .before .before .before .before .before .before .before .blank .ensures, put-both)
+returns c =
+    simp (
+      c .put-token .ensures,
+      c .before .put-holding .ensures,
+      c .before .before .put-place .ensures,
+      c .before .before .before .text2 .ensures,
+      c .before .before .before .before .before .put-number .ensures,
+      c .before .before .before .before .before .before .text .ensures,
+      c .before .before .before .before .before .before .before .before .blank .ensures,
+      put-both,
+    )
 
 pub record-line-spec : {M : Type 1} → statement M
 record-line-spec =

@@ -17,7 +17,14 @@ put-standing-requires : tie.Need-put-standing-requires
 put-standing-requires c κs = search needs
 
 returns : tie.Need-returns
-returns c = simp (c .put-standing .ensures, c .before .stands .ensures, c .before .before .record-line .ensures, c .before .before .before .record-of .ensures, put-both)
+returns c =
+    simp (
+      c .put-standing .ensures,
+      c .before .stands .ensures,
+      c .before .before .record-line .ensures,
+      c .before .before .before .record-of .ensures,
+      put-both,
+    )
 
 pub thread-line-spec : {M : Type 1} → statement M
 thread-line-spec =

@@ -36,7 +36,8 @@ loop-again : tie.Need-loop-again Inv-loop μ-loop
 loop-again c =
     let l = c .before .before .before .loop in
     let a = c .before .before .before .before .before .args in
-    (omega arith, c .byte .ensures ∙ (ap (λ x. putOf x (getD (a .s .now) (l .i) 0)) (l .inv .1) ∙ put-next (a .self) (a .s .now) (l .i) (omega arith)))
+    let put = ap (λ x. putOf x (getD (a .s .now) (l .i) 0)) (l .inv .1) in
+    (omega arith, c .byte .ensures ∙ (put ∙ put-next (a .self) (a .s .now) (l .i) (omega arith)))
 
 returns : tie.Need-returns Inv-loop μ-loop
 returns c =
