@@ -1,4 +1,6 @@
 // Taking the lock: the first attempts, lock_contended, and the wait for the node to be completed.
+#![tactic(auto)]
+
 pub mod lock_contended;
 pub mod try_read;
 pub mod try_write;

@@ -10,7 +10,7 @@ use word::{ReadLocked, Word, WriteLocked};
 pub const SPIN_COUNT: u8 = 7;
 
 // The lock rule of the call, read_lock or write_lock: the word to compare to.
-#[derive(Drop)]
+#[derive(Clone, Copy)]
 pub enum Permitted {
     To(Word),
     Refused,

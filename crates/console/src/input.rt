@@ -6,7 +6,7 @@ ghost use Rattle.console.specs.Input.{ReadBy, unreadable_of};
 // One byte more than the largest file that is looked at.
 pub const ENOUGH: usize = 60007;
 
-#[derive(Drop)]
+#[derive(Clone, Copy)]
 pub enum Reading {
     Whole,
     // The caller's bytes are full: there may be more.
@@ -15,7 +15,7 @@ pub enum Reading {
     Unreadable,
 }
 
-#[derive(Drop)]
+#[derive(Clone, Copy)]
 pub struct Received {
     pub length: usize,
     pub reading: Reading,

@@ -12,14 +12,14 @@ use state::Reply;
 use traced::event::traced_line;
 
 // Is there more to print, or did the replay stop, and why?
-#[derive(Drop)]
+#[derive(Clone, Copy)]
 pub(crate) enum Going {
     On,
     Over(FileStop),
 }
 
 // The cursor after the lines that were laid, and how many bytes those are.
-#[derive(Drop)]
+#[derive(Clone, Copy)]
 pub(crate) struct Filled {
     pub(crate) cursor: Cursor,
     pub(crate) at: usize,

@@ -20,7 +20,7 @@ use traced::thread::thread_line;
 use word::ThreadNumber;
 
 // What a file's replay came to, and how many bytes were written of it.
-#[derive(Drop)]
+#[derive(Clone, Copy)]
 pub struct Printed {
     pub replayed: FileReplayed,
     pub bytes: usize,

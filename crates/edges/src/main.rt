@@ -1,4 +1,6 @@
 // Document 01's worked replays and the edges of its limits, each with what was expected and what was found.
+#![tactic(auto)]
+
 mod files;
 mod moves;
 mod replays;

@@ -19,20 +19,20 @@ pub(crate) const STEP: u8 = 16;
 
 // Of the last move: how many of its events were accepted, the number of its last refusal (0: the last was accepted),
 // the node of the thread that it woke last (0: none).
-#[derive(Drop)]
+#[derive(Clone, Copy)]
 struct LastMove {
     accepted: u64,
     refused: u64,
     woken: u64,
 }
 
-#[derive(Drop)]
+#[derive(Clone, Copy)]
 struct Made {
     machine: Machine,
     last: LastMove,
 }
 
-#[derive(Drop)]
+#[derive(Clone, Copy)]
 pub(crate) struct Facts {
     pub(crate) word: u64,
     pub(crate) accepted: u64,

@@ -2,7 +2,7 @@
 use console::output::write_line;
 use print::Line;
 
-#[derive(Drop)]
+#[derive(Clone, Copy)]
 pub(crate) struct Tally {
     pub(crate) right: u64,
     pub(crate) wrong: u64,

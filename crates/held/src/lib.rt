@@ -4,6 +4,8 @@
 //     whole::replay_file_held(s)          schedule's `replay_file` and `rest_of_file`
 //
 // Both are walked by hand. A function with a local of such a struct is not covered, so programs call schedule's four.
+#![tactic(auto)]
+
 pub mod replay;
 pub mod whole;
 

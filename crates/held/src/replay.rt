@@ -7,7 +7,7 @@ use schedule::replay::{Stop, replay, rest};
 use state::Machine;
 
 // The machine after the events that ran, how many they are, why it stopped, and the rest from the refused event on.
-#[derive(Drop)]
+#[derive(Clone, Copy)]
 pub struct Held<'a> {
     pub machine: Machine,
     pub run: usize,

@@ -8,7 +8,7 @@ use schedule::whole::{FileStop, replay_file, rest_of_file};
 use state::Machine;
 
 // As a Held; the stop may be the file's refusal, with nothing run and a fresh machine of one thread.
-#[derive(Drop)]
+#[derive(Clone, Copy)]
 pub struct FileHeld<'a> {
     pub machine: Machine,
     pub run: usize,

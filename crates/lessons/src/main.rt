@@ -1,4 +1,6 @@
 // The trace of every lesson's schedule (lessons/), each under its name.
+#![tactic(auto)]
+
 use console::input::{ENOUGH, receive_named};
 use console::output::write_line;
 use console::runs::trace_received;

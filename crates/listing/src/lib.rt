@@ -1,4 +1,6 @@
 // What a machine's queue says, read off it and changing nothing: who waits, and where the readers are counted.
+#![tactic(auto)]
+
 pub mod listing;
 pub mod reader_count;
 

@@ -9,7 +9,7 @@ use state::{Machine, Node, Refusal, THREADS, Verdict, good_count};
 use word::NodeNumber;
 
 // nodes[..length] are the waiters, newest first, and the others none. A refused listing has no nodes.
-#[derive(Drop)]
+#[derive(Clone, Copy)]
 pub struct Waiters {
     pub nodes: [NodeNumber; THREADS],
     pub length: usize,
@@ -17,7 +17,7 @@ pub struct Waiters {
 }
 
 // What following next comes to: the tail that is set in a node, or a link out of range or past the last visit.
-#[derive(Drop)]
+#[derive(Clone, Copy)]
 enum Found {
     Tail(NodeNumber),
     Refused,

@@ -10,7 +10,7 @@ use state::{Machine, Refusal, Verdict, good_count};
 use word::{NodeNumber, Word};
 
 // Where the number of readers sits. A pending downgrade stands for one reader.
-#[derive(Drop)]
+#[derive(Clone, Copy)]
 pub enum Sits {
     Nowhere,
     Word,
@@ -19,7 +19,7 @@ pub enum Sits {
 }
 
 // The threads that hold read, where their number sits, and the raw number there.
-#[derive(Drop)]
+#[derive(Clone, Copy)]
 pub struct Readers {
     pub readers: u64,
     pub sits: Sits,

@@ -2,7 +2,7 @@
 ghost use Rattle.std.specs.Prelude.{◌≡◌};
 ghost use Rattle.lock.specs.Code.{call_of, code_of};
 
-#[derive(Drop)]
+#[derive(Clone, Copy)]
 pub enum Call {
     Read,
     Write,
@@ -13,7 +13,7 @@ pub enum Call {
     Downgrade,
 }
 
-#[derive(Drop)]
+#[derive(Clone, Copy)]
 pub enum Code {
     Begin(Call),
     Step,

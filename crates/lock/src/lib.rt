@@ -9,6 +9,8 @@
 //
 // `decide` sees a Look and no machine. That an event is these three is `event_decides` (specs/EventDecides.antt); the
 // waiter listing and the reader count stand in crate listing.
+#![tactic(auto)]
+
 pub mod advance;
 pub mod begin;
 pub mod code;

@@ -12,7 +12,7 @@ ghost use Rattle.lock.specs.Look.{tail_slot, tail_index, mark_in, look_from, loo
 use state::{Access, Machine, Mark, Node, Place, THREADS, Thread, View};
 use word::{NodeNumber, Slot, ThreadNumber, Word};
 
-#[derive(Drop)]
+#[derive(Clone, Copy)]
 pub struct Look {
     pub count: u8,
     pub word: Word,

@@ -7,7 +7,7 @@ pub const WIDTH: usize = 256;
 // The most digits that a 64-bit number has.
 pub const DIGITS: u8 = 20;
 
-#[derive(Drop)]
+#[derive(Clone, Copy)]
 pub struct Line {
     pub bytes: [u8; WIDTH],
     pub length: usize,

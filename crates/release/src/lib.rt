@@ -1,4 +1,6 @@
 // Giving the lock up, or up to read: read_unlock, write_unlock, unlock_contended and downgrade.
+#![tactic(auto)]
+
 pub mod downgrade;
 pub mod read_unlock;
 pub mod unlock_contended;

@@ -1,4 +1,6 @@
 // Document 01's print of a schedule file: a line for each event, then `end N` or `refused N`.
+#![tactic(auto)]
+
 use console::input::{ENOUGH, receive};
 use console::runs::replay_received;
 

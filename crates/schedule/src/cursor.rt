@@ -8,14 +8,14 @@ use lock::event::event;
 use state::{Machine, Reply};
 use word::ThreadNumber;
 
-#[derive(Drop)]
+#[derive(Clone, Copy)]
 pub struct Cursor {
     pub machine: Machine,
     pub at: usize,
 }
 
 // The event at the cursor, or that no whole event is left.
-#[derive(Drop)]
+#[derive(Clone, Copy)]
 pub enum Seen {
     Ended,
     Event {
@@ -26,7 +26,7 @@ pub enum Seen {
 }
 
 // The next cursor, which stays where it was at the end and at a refused event.
-#[derive(Drop)]
+#[derive(Clone, Copy)]
 pub struct Moved {
     pub cursor: Cursor,
     pub seen: Seen,

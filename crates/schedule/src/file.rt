@@ -15,7 +15,7 @@ pub const WIDTH: usize = 2;
 
 pub const LIMIT: usize = 30000;
 
-#[derive(Drop)]
+#[derive(Clone, Copy)]
 pub enum FileRefusal {
     TooShort,
     Version,
@@ -24,7 +24,7 @@ pub enum FileRefusal {
     TooMany,
 }
 
-#[derive(Drop)]
+#[derive(Clone, Copy)]
 pub enum Checked {
     Accepted { threads: u8, events: usize },
     Refused(FileRefusal),

@@ -10,6 +10,8 @@
 //     whole::replay_file(s)          check and replay: a refused file runs nothing
 //     whole::unread_of_file(s)       the rest that it leaves; of a refused file, all
 //     cursor::next(cursor, s)        event by event, through the same states
+#![tactic(auto)]
+
 pub mod cursor;
 pub mod file;
 pub mod part;

@@ -9,14 +9,14 @@ use lock::event::event;
 use state::{Machine, Refusal, Reply};
 use word::ThreadNumber;
 
-#[derive(Drop)]
+#[derive(Clone, Copy)]
 pub enum Stop {
     Ran,
     Refused(Refusal),
 }
 
 // The machine after the events that ran, how many they are, and why it stopped.
-#[derive(Drop)]
+#[derive(Clone, Copy)]
 pub struct Replayed {
     pub machine: Machine,
     pub run: usize,

@@ -7,14 +7,14 @@ use crate::file::{Checked, FileRefusal, check, events};
 use crate::replay::{Replayed, Stop, replay, rest};
 use state::{Machine, Refusal};
 
-#[derive(Drop)]
+#[derive(Clone, Copy)]
 pub enum FileStop {
     Ran,
     Refused(Refusal),
     File(FileRefusal),
 }
 
-#[derive(Drop)]
+#[derive(Clone, Copy)]
 pub struct FileReplayed {
     pub machine: Machine,
     pub run: usize,

@@ -1,4 +1,6 @@
 // Replays a schedule file a hundred times over and prints nothing of it, so that the replay alone can be timed.
+#![tactic(auto)]
+
 use console::Reading;
 use console::input::{ENOUGH, receive};
 use console::output::write_line;

@@ -4,6 +4,8 @@
 //     part::part_at(place)    what a thread at a place has to do with the queue
 //     stands::stands(m, t)    where thread t's node stands
 //     rouses::rouses(m, t)    is thread t one whose steps have to come before the queue's waiters are woken?
+#![tactic(auto)]
+
 mod look;
 pub mod part;
 pub mod rouses;

@@ -5,7 +5,7 @@ ghost use Rattle.standing.specs.Part.{walking_of, part_of, waiter_of, registered
 use state::{Place, Walk, Who};
 use word::{NodeNumber, Word};
 
-#[derive(Drop)]
+#[derive(Clone, Copy)]
 pub enum Part {
     Apart,
     // It will look at the lock again before it waits.

@@ -9,7 +9,7 @@ use listing::listing::{from_head, listing};
 use state::Machine;
 use word::{NodeNumber, ThreadNumber};
 
-#[derive(Drop)]
+#[derive(Clone, Copy)]
 pub enum Standing {
     NotWaiting,
     Completed,

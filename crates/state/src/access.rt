@@ -5,7 +5,7 @@ ghost use Rattle.state.specs.Access.{access_of, touched_of, at_word_of, load_of,
 use crate::place::Place;
 use word::{NodeNumber, ThreadNumber};
 
-#[derive(Drop)]
+#[derive(Clone, Copy)]
 pub enum Kind {
     Nothing,
     Load,
@@ -18,7 +18,7 @@ pub enum Kind {
     Park,
 }
 
-#[derive(Drop)]
+#[derive(Clone, Copy)]
 pub enum Location {
     Nowhere,
     Word,
@@ -29,7 +29,7 @@ pub enum Location {
     Token(ThreadNumber),
 }
 
-#[derive(Drop)]
+#[derive(Clone, Copy)]
 pub struct Access {
     pub kind: Kind,
     pub location: Location,

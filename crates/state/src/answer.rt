@@ -4,7 +4,7 @@ ghost use Rattle.state.specs.Answer.{refusal_number, answer_text};
 
 use word::Owner;
 
-#[derive(Drop)]
+#[derive(Clone, Copy)]
 pub enum Answer {
     Begun,
     Went,
@@ -13,7 +13,7 @@ pub enum Answer {
     No,
 }
 
-#[derive(Drop)]
+#[derive(Clone, Copy)]
 pub enum Refusal {
     UnknownCode,
     NoThread,
@@ -26,20 +26,20 @@ pub enum Refusal {
 }
 
 // An accepted event's answer with the thread it woke, or the refusal.
-#[derive(Drop)]
+#[derive(Clone, Copy)]
 pub enum Reply {
     Accepted { answer: Answer, woken: Owner },
     Refused(Refusal),
 }
 
-#[derive(Drop)]
+#[derive(Clone, Copy)]
 pub enum Verdict {
     Fine,
     Refused(Refusal),
 }
 
 // An answer's word in ASCII, and how many of the bytes it has; the others are 0.
-#[derive(Drop)]
+#[derive(Clone, Copy)]
 pub struct Text {
     pub bytes: [u8; 5],
     pub length: usize,

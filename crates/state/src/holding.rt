@@ -3,7 +3,7 @@ ghost use Rattle.std.specs.Prelude.{◌≡◌};
 ghost use Rattle.state.specs.Holding.{reads_of, writes_of, granted_read, granted_write};
 ghost use Rattle.state.specs.Holding.{released_read, released_write, downgraded_to};
 
-#[derive(Drop)]
+#[derive(Clone, Copy)]
 pub enum Holding {
     Nothing,
     Read,

@@ -11,6 +11,8 @@
 // A thread is idle or at a place: one case for each access site of queue.rs, with the values that the code holds there.
 // An event makes the access of its thread's place and runs the local code up to the next one. What it may look at is a
 // View; what it did is a Change: the word, one node, the thread's own record, and one token by waking.
+#![tactic(auto)]
+
 pub mod access;
 pub mod answer;
 pub mod holding;

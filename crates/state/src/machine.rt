@@ -11,14 +11,14 @@ use word::Word;
 // The thread limit: the one place that says it, and specs/Machine.antt's thread_limit.
 pub const THREADS: usize = 8;
 
-#[derive(Drop)]
+#[derive(Clone, Copy)]
 pub struct Thread {
     pub place: Place,
     pub token: bool,
     pub holding: Holding,
 }
 
-#[derive(Drop)]
+#[derive(Clone, Copy)]
 pub struct Machine {
     pub count: u8,
     pub word: Word,
@@ -27,14 +27,14 @@ pub struct Machine {
 }
 
 // A machine asked for, and whether its count was one of a machine.
-#[derive(Drop)]
+#[derive(Clone, Copy)]
 pub struct Fresh {
     pub machine: Machine,
     pub verdict: Verdict,
 }
 
 // The machine after an event, and the reply.
-#[derive(Drop)]
+#[derive(Clone, Copy)]
 pub struct Outcome {
     pub machine: Machine,
     pub reply: Reply,

@@ -4,7 +4,7 @@ ghost use Rattle.state.specs.Node.{blank_node, filled_of, with_next, with_prev, 
 
 use word::{NodeNumber, ThreadNumber, Word};
 
-#[derive(Drop)]
+#[derive(Clone, Copy)]
 pub struct Node {
     // A word without flags: a link to the next older node; in the oldest, 16 times the readers.
     pub next: Word,

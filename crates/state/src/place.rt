@@ -4,21 +4,21 @@
 use word::{NodeNumber, Word};
 
 // Who unlocks the queue or wakes: a waiter of its own, which goes on to wait, or a call that ends after it.
-#[derive(Drop)]
+#[derive(Clone, Copy)]
 pub enum Who {
     Waiter { writer: bool },
     Leaver,
 }
 
 // What a walk to the tail is for.
-#[derive(Drop)]
+#[derive(Clone, Copy)]
 pub enum Walk {
     Queue { who: Who },
     ReadUnlock,
     Downgrade,
 }
 
-#[derive(Drop)]
+#[derive(Clone, Copy)]
 pub enum Place {
     Idle,
     // try_read, and the first attempt of read

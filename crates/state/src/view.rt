@@ -11,7 +11,7 @@ use crate::place::{Place, Walk, Who};
 use word::{Owner, ThreadNumber, Word};
 
 // The writer mark of the tail that a walk found, where that tail is a node of the machine.
-#[derive(Drop)]
+#[derive(Clone, Copy)]
 pub enum Mark {
     Missing,
     Reader,
@@ -20,7 +20,7 @@ pub enum Mark {
 
 // The word, the one node that the access lies in (at the word, the thread's own), the thread's token and holding, and
 // whether the step is to fail for no cause.
-#[derive(Drop)]
+#[derive(Clone, Copy)]
 pub struct View {
     pub me: ThreadNumber,
     pub word: Word,
@@ -32,7 +32,7 @@ pub struct View {
 }
 
 // The word, that node and the thread's record after the step; its answer, and the thread it woke.
-#[derive(Drop)]
+#[derive(Clone, Copy)]
 pub struct Change {
     pub word: Word,
     pub node: Node,
@@ -41,14 +41,14 @@ pub struct Change {
     pub woken: Owner,
 }
 
-#[derive(Drop)]
+#[derive(Clone, Copy)]
 pub enum Stepped {
     To(Change),
     Refused(Refusal),
 }
 
 // Where the thread stands after a step, and what is answered.
-#[derive(Drop)]
+#[derive(Clone, Copy)]
 pub struct Next {
     pub place: Place,
     pub answer: Answer,

@@ -10,7 +10,7 @@ use state::Place;
 const WIDTH: usize = 19;
 
 // The name's bytes, and how many they are; the others are blanks. A match whose arms are literals is cheap to prove.
-#[derive(Drop)]
+#[derive(Clone, Copy)]
 pub struct Name {
     pub bytes: [u8; WIDTH],
     pub length: usize,

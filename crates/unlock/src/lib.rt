@@ -1,4 +1,6 @@
 // Unlocking the queue: what follows a walk in the step that ends it, and unlock_queue.
+#![tactic(auto)]
+
 pub mod after_walk;
 pub mod unlock_queue;
 

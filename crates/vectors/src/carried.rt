@@ -3,7 +3,7 @@ use state::{Place, Walk, Who};
 use word::{NodeNumber, Word};
 
 // `role` is blocking, writer, who or walk; `first` is what a store stores, or the node of a load.
-#[derive(Drop)]
+#[derive(Clone, Copy)]
 pub struct Carried {
     pub place: u64,
     pub role: u64,

@@ -2,6 +2,8 @@
 //
 // Commands of three bytes come on standard input: what to do, a code or a thread count, a thread. A line goes out for
 // each event that is shown: the reply, the word, and each thread with its next access and its node.
+#![tactic(auto)]
+
 mod carried;
 mod line;
 mod put;

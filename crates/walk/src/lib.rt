@@ -1,4 +1,6 @@
 // Walking the queue: find_tail_and_add_backlinks up to its last store, and complete_all.
+#![tactic(auto)]
+
 pub mod complete_all;
 pub mod find_tail_and_add_backlinks;
 

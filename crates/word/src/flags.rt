@@ -6,7 +6,7 @@ ghost use Rattle.word.specs.Flags.{set_downgraded, clear_downgraded, without_fla
 
 use crate::number::NodeNumber;
 
-#[derive(Drop)]
+#[derive(Clone, Copy)]
 pub struct Word(pub u64);
 
 impl Word {

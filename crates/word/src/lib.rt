@@ -9,6 +9,8 @@
 //     16 * n + QUEUED + ..     node n is the newest waiter; the oldest waiter's next has the reader count
 //
 // Thread t, from 0, owns node t + 1: thread number, node number and word are three types.
+#![tactic(auto)]
+
 pub mod flags;
 pub mod number;
 pub mod rules;

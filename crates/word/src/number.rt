@@ -2,21 +2,21 @@
 ghost use Rattle.std.specs.Prelude.{◌≡◌};
 ghost use Rattle.word.specs.Number.{node_of, owner_of, is_none, slot_of};
 
-#[derive(Drop)]
+#[derive(Clone, Copy)]
 pub struct ThreadNumber(pub u8);
 
-#[derive(Drop)]
+#[derive(Clone, Copy)]
 pub struct NodeNumber(pub u64);
 
 // Whose a node is; no thread number fits a node number past 256.
-#[derive(Drop)]
+#[derive(Clone, Copy)]
 pub enum Owner {
     Nobody,
     Thread(ThreadNumber),
 }
 
 // Where a node lies among a machine's nodes.
-#[derive(Drop)]
+#[derive(Clone, Copy)]
 pub enum Slot {
     Outside,
     At(usize),

@@ -10,13 +10,13 @@ use crate::number::ThreadNumber;
 // The word of one reader, and of a writer that has become one.
 pub const ONE_READER: Word = Word(17);
 
-#[derive(Drop)]
+#[derive(Clone, Copy)]
 pub enum WriteLocked {
     To(Word),
     Refused,
 }
 
-#[derive(Drop)]
+#[derive(Clone, Copy)]
 pub enum ReadLocked {
     To(Word),
     Refused,
@@ -24,7 +24,7 @@ pub enum ReadLocked {
 
 // What read_unlock's weak compare writes; Contended where the count stands in the oldest waiter, Refused where the word
 // counts no reader.
-#[derive(Drop)]
+#[derive(Clone, Copy)]
 pub enum ReadUnlocked {
     To(Word),
     Contended,
