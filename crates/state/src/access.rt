@@ -64,6 +64,7 @@ fn store(location: Location) -> Access
 
 impl Access {
     // The access of thread `me` at `place`.
+    #[tactic(auto, unfolding(crate::specs::Access::access_of))]
     pub fn of(me: ThreadNumber, place: Place) -> Access
         ensures { result ≡ access_of me place }
     {
