@@ -4,6 +4,7 @@ ghost use Rattle.lock.specs.Advance.{advance_of};
 
 use state::{Place, Refusal, Stepped, View};
 
+#[tactic(auto, unfolding(crate::specs::Advance::advance_of))]
 pub(crate) fn advance(v: View, place: Place) -> Stepped
     ensures { result ≡ advance_of v place }
 {

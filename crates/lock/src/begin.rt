@@ -66,6 +66,7 @@ fn is_idle(place: Place) -> bool
 }
 
 // 3 inside a call, then 4.
+#[tactic(auto, unfolding(crate::specs::Decide::begin_verdict))]
 fn begin_verdict(t: Thread, call: Call) -> Verdict
     ensures { result ≡ begin_verdict t call }
 {
@@ -80,6 +81,7 @@ fn begin_verdict(t: Thread, call: Call) -> Verdict
     Verdict::Fine
 }
 
+#[tactic(auto, unfolding(crate::specs::Decide::begins_in))]
 pub(crate) fn begins(look: Look, call: Call) -> Stepped
     ensures { result ≡ begins_in look call }
 {

@@ -22,6 +22,7 @@ fn is_unknown(code: Code) -> bool
 }
 
 // 8 for the count, 1, 2.
+#[tactic(auto, unfolding(crate::specs::Decide::event_verdict))]
 fn event_verdict(count: u8, me: ThreadNumber, code: Code) -> Verdict
     ensures { result ≡ event_verdict count me code }
 {
@@ -49,6 +50,7 @@ fn asked(look: Look, code: Code) -> Stepped
     }
 }
 
+#[tactic(auto, unfolding(crate::specs::Decide::decide_of))]
 pub fn decide(look: Look, code: u8) -> Stepped
     ensures { result ≡ decide_of look code }
 {

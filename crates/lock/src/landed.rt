@@ -67,6 +67,7 @@ fn applied(first: Machine, i: usize, k: usize, c: Change) -> Outcome
     }
 }
 
+#[tactic(auto, unfolding(crate::specs::Store::landed_in))]
 pub(crate) fn land(m: Machine, look: Look, stepped: Stepped) -> Outcome
     ensures { result ≡ landed_in m look stepped }
 {

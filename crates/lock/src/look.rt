@@ -55,6 +55,7 @@ fn touched_slot(count: u8, me: ThreadNumber, place: Place) -> Slot
 }
 
 // Where the node lies that the thread's access touches; at the word or the token, the thread's own.
+#[tactic(auto, unfolding(crate::specs::Look::touched_index))]
 pub(crate) fn touched_index(count: u8, me: ThreadNumber, t: Thread) -> usize
     ensures { (result ≡ touched_index count me t) × (result < thread_limit) }
 {
@@ -63,6 +64,7 @@ pub(crate) fn touched_index(count: u8, me: ThreadNumber, t: Thread) -> usize
 }
 
 // The node whose writer mark the local code of a step reads: the tail that a walk found.
+#[tactic(auto, unfolding(crate::specs::Step::marked_of))]
 fn marked(place: Place) -> NodeNumber
     ensures { result ≡ marked_of place }
 {
@@ -83,6 +85,7 @@ fn tail_slot(count: u8, t: Thread) -> Slot
     marked(place).slot(count)
 }
 
+#[tactic(auto, unfolding(crate::specs::Look::tail_index))]
 fn tail_index(count: u8, t: Thread) -> usize
     ensures { (result ≡ tail_index count t) × (result < thread_limit) }
 {
@@ -103,6 +106,7 @@ fn mark_in(slot: Slot, writer: bool) -> Mark
 
 impl Look {
     // What was read, put together: the thread's record, the node touched, and the node of the tail.
+    #[tactic(auto, unfolding(crate::specs::Look::look_from))]
     fn from(count: u8, word: Word, me: ThreadNumber, thread: Thread, node: Node, tail: Node) -> Look
         ensures { result ≡ look_from count word me thread node tail }
     {
@@ -138,6 +142,7 @@ impl Look {
     }
 }
 
+#[tactic(auto, unfolding(crate::specs::Look::look_of))]
 pub fn look_at(m: Machine, me: ThreadNumber) -> Look
     ensures { result ≡ look_of m me }
 {

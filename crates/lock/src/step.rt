@@ -62,6 +62,7 @@ fn touch_verdict(slot: Slot, halted: Verdict) -> Verdict
 }
 
 // 5, 6 and 7 by the kind of the access, then 8.
+#[tactic(auto, unfolding(crate::specs::Decide::step_verdict))]
 fn step_verdict(count: u8, me: ThreadNumber, t: Thread, fails: bool) -> Verdict
     ensures { result ≡ step_verdict count me t fails }
 {
@@ -71,6 +72,7 @@ fn step_verdict(count: u8, me: ThreadNumber, t: Thread, fails: bool) -> Verdict
     touch_verdict(access.touched(me).slot(count), halted(kind, t.token, fails))
 }
 
+#[tactic(auto, unfolding(crate::specs::Decide::steps_in))]
 pub(crate) fn steps(look: Look, fails: bool) -> Stepped
     ensures { result ≡ steps_in look fails }
 {
