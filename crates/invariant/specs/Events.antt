@@ -219,7 +219,7 @@ module _ (m : Machine) (ok : Ok m) (me : ThreadNumber) (tin : me.0 < m.count) (f
         by Outside e = absurd (has_slot e)
         by (At j) e =
             let x = slot_at (touched_of (access_of me p) me) m.count j e in
-            landed_safe _ j (omega (arith, few)) (advance_of (view_at m me j fails p) p)
+            landed_safe (mark_of m (marked_of p)) j (omega (arith, few)) (advance_of (view_at m me j fails p) p)
             (subst (λ k. Goes setting k (λ v. advance_of v p)) (x.0 ∙ add-one j)
             (kept_everywhere setting few p here (thread_at m me.0).token fine marked))
 

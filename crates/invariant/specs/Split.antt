@@ -130,7 +130,7 @@ module _ (st : Setting) (who : Who) (seen : Word) (tail : NodeNumber) where
     sets_aside_lem me g here _
         (record {
           some = omega (arith, two);
-          none = knows.it.ground;
+          none = knows.it.footing;
           node = knows.it.ist;
           floor = g.tk (to_node seen).0;
           is = refl;

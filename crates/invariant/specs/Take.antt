@@ -162,7 +162,7 @@ module _ (st : Setting) (who : Who) (seen : Word) (tail : NodeNumber)
 
   pub kept_take_cas : Goes st (suc me.0) (λ v. take_cas_of v who seen tail)
   kept_take_cas = kept_compare st (suc me.0) seen _ _
-      (λ same. kept_still st (suc me.0) _ _ _ (takes_all_lem me g here _ (record { none = knows.ground; is = refl }))
+      (λ same. kept_still st (suc me.0) _ _ _ (takes_all_lem me g here _ (record { none = knows.footing; is = refl }))
       (subst (λ y. Inv n (moved_to st (taken_of y) (placed (mine st) (WakePrev who tail)))
       (took g me.0)) same (takes same)))
       (kept_still st (suc me.0) _ _ g (take_fails me g here _ _ _)

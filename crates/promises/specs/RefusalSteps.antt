@@ -4,7 +4,7 @@ use Rattle.std.specs.Prelude.{ℕ, ◌+◌, ◌-◌, ◌<◌, Bool, true, false,
 use Rattle.std.proofs.Common.{sym, ap, subst, ◌∙◌, arith, eqb-true, le-ltb}
 use Rattle.word.specs.Base.{pick}
 use Rattle.word.specs.Cases.{pick_both, pick_second}
-use Rattle.word.specs.Flags.{word, LOCKED, SINGLE, locked, queued, downgraded}
+use Rattle.word.specs.Flags.{word, LOCKED, SINGLE, locked, queued, downgraded, to_node}
 use Rattle.word.specs.Number.{node_of}
 use Rattle.word.specs.Rules.{read_lock_of, read_unlock_of}
 use Rattle.word.specs.declared.flags.Word.{Word}
@@ -183,7 +183,8 @@ rule_gives m t fails (At.Park _) h = search going
 rule_gives m t fails (At.WalkTail _ _ _) h = search going
 rule_gives m t fails (At.WalkNext _ _ _) h = search going
 rule_gives m t fails (At.WalkPrev _ _ _ _) h = search going
-rule_gives m t fails (At.WalkHead walk seen tail) h = walked_gives m _ _ walk seen tail refl
+rule_gives m t fails (At.WalkHead walk seen tail) h =
+    walked_gives m (view_at m t ((to_node seen).0 - 1) fails (At.WalkHead walk seen tail)) _ walk seen tail refl
 rule_gives m t fails (At.QueueCas _ _) h = search going
 rule_gives m t fails (At.SplitPrev _ _ _) h = search going
 rule_gives m t fails (At.SplitStore _ _ _ _) h = search going
@@ -192,7 +193,8 @@ rule_gives m t fails (At.SplitRestore _ _ _ _) h = search going
 rule_gives m t fails (At.TakeCas _ _ _) h = search going
 rule_gives m t fails (At.WakePrev _ _) h = search going
 rule_gives m t fails (At.WakeStore _ _ _) h = search going
-rule_gives m t fails At.ReadUnlockLoad h = unlock_gives _ _ m.word
+rule_gives m t fails At.ReadUnlockLoad h =
+    unlock_gives (view_at m t ((node_of t).0 - 1) fails At.ReadUnlockLoad) _ m.word
 rule_gives m t fails (At.ReadUnlockCas seen) h =
     unlock_cas_gives (view_at m t ((node_of t).0 - 1) fails (At.ReadUnlockCas seen)) seen
 rule_gives m t fails (At.Subtract _ tail) h = gives_test (ltb (node_at m (tail.0 - 1)).next.0 SINGLE) _

@@ -124,7 +124,7 @@ pub record WalkAt (k : WalkKind) (q p : Interval) (l : Links) (hd cu : ℕ) : Ty
   pub ish : (walked_on k q p).log h ≡ hd
   pub isc : (walked_on k q p).log c ≡ cu
   pub way : Walker (walked_on k q p) l h c
-  pub ground : Ground k p l
+  pub footing : Ground k p l
   pub over : Over k (walked_on k q p) l h
 
 -- stands at ticket d + 1, above the floor
@@ -135,7 +135,7 @@ pub record PastAt (k : WalkKind) (q p : Interval) (l : Links) (hd cu : ℕ) : Ty
   pub isc : (walked_on k q p).log (suc d) ≡ cu
   pub low : (walked_on k q p).fl ≤ d
   pub way : Walker (walked_on k q p) l h (suc d)
-  pub ground : Ground k p l
+  pub footing : Ground k p l
   pub over : Over k (walked_on k q p) l h
 
 pub record LinkAt (k : WalkKind) (q p : Interval) (l : Links) (hd cu nn : ℕ) : Type 0 where
@@ -147,7 +147,7 @@ pub record HeadAt (k : WalkKind) (q p : Interval) (l : Links) (hd tail : ℕ) : 
   pub ish : (walked_on k q p).log h ≡ hd
   pub ist : (walked_on k q p).log (walked_on k q p).lo ≡ tail
   pub way : Full (walked_on k q p) l h
-  pub ground : Ground k p l
+  pub footing : Ground k p l
   pub over : Over k (walked_on k q p) l h
 
 pub record SplitAt (q p : Interval) (l : Links) (hd tail prev : ℕ) : Type 0 where
@@ -343,7 +343,7 @@ module _ {q q' p : Interval} {log' : ℕ → ℕ} {l l' : Links} (mine : Agree p
         ish = log_on w.h hd (omega arith) (omega arith) w.ish;
         isc = log_on w.c cu (omega arith) (omega arith) w.isc;
         way = walk_still s w.h w.c w.way;
-        ground = ground_on mine k w.ground;
+        footing = ground_on mine k w.footing;
         over = over_on w.h (omega arith) w.over;
       }
 
@@ -357,7 +357,7 @@ module _ {q q' p : Interval} {log' : ℕ → ℕ} {l l' : Links} (mine : Agree p
         isc = log_on (suc w.d) cu (omega arith) (omega arith) w.isc;
         low = omega (arith, s.fl, w.low);
         way = walk_still s w.h (suc w.d) w.way;
-        ground = ground_on mine k w.ground;
+        footing = ground_on mine k w.footing;
         over = over_on w.h (omega arith) w.over;
       }
 
@@ -378,7 +378,7 @@ module _ {q q' p : Interval} {log' : ℕ → ℕ} {l l' : Links} (mine : Agree p
         ish = log_on w.h hd (omega arith) (omega arith) w.ish;
         ist = lo_still s tail (omega arith) w.ist;
         way = full_still s w.h w.way;
-        ground = ground_on mine k w.ground;
+        footing = ground_on mine k w.footing;
         over = over_on w.h (omega arith) w.over;
       }
 

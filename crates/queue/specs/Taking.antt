@@ -71,7 +71,7 @@ module _ {g : Ghost} {s : St} (v : Inv g s) (t : ℕ) where
       subst (λ z. Inv (asided g t z) (relinked s t (set_tl s.links hd prev) (aside hd tail)))
       (sym (ap g.tk (sym w.it.ish) ∙ hj.tk))
       (step v t (asided g t h) (set_tl s.links hd prev) s.wait (aside hd tail)
-      (parts_aside v.parts t h (omega (arith, w.more, f.top)) w.it.ground)
+      (parts_aside v.parts t h (omega (arith, w.more, f.top)) w.it.footing)
       (rw (w.it.ish, w.isp) at (Queue.set_aside (live v t) v.queue h f w.more w.it.over))
       (rw (upd_same g.taken t (oldest_span g)) it) (never refl)
       λ u ne. spared_queue v t hj (rw w.it.ish (only_tl s.links hd prev))
@@ -140,7 +140,7 @@ module _ {g : Ghost} {s : St} (v : Inv g s) (t : ℕ) where
           top = w.top;
           back = λ j x y. absurd (omega arith);
         };
-        ground = omega arith;
+        footing = omega arith;
         over = λ i x y. a.clean i (omega (arith, w.low)) y;
       }
 
@@ -164,7 +164,7 @@ module _ {g : Ghost} {s : St} (v : Inv g s) (t : ℕ) where
   pub take : {hd tail : ℕ} (p : ℕ) → s.role t ≡ head changes hd tail → Lonely s t → suc p ≡ g.hi → g.log p ≡ hd
       → Inv (took g t) (turned s t (wake tail))
   take {hd} {tail} p e lone at is =
-      step v t (took g t) s.links s.wait (wake tail) (parts_take v.parts t w.ground)
+      step v t (took g t) s.links s.wait (wake tail) (parts_take v.parts t w.footing)
       (Queue.empty_queue g.log g.hi s.links) (rw (upd_same g.taken t (whole_span g)) it) (never refl)
       (spared_take lone)
     where
@@ -211,7 +211,7 @@ module _ {g : Ghost} {s : St} (v : Inv g s) (t : ℕ) where
           top = omega arith;
           back = λ j x y. absurd (omega arith);
         };
-        ground = v.queue;
+        footing = v.queue;
         over = at;
       }
 

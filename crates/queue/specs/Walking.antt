@@ -31,14 +31,14 @@ module _ {g : Ghost} {s : St} (v : Inv g s) (t : ℕ) where
       }
 
       it : (k : WalkKind) → public k ≡ true → WalkAt k (tickets_of g) (taken_by g t) s.links hd hd
-      it looks _ = record { h = p; c = p; ish = is; isc = is; way = w; ground = role_knows v t e; over = tt }
+      it looks _ = record { h = p; c = p; ish = is; isc = is; way = w; footing = role_knows v t e; over = tt }
       it changes _ = record {
         h = p;
         c = p;
         ish = is;
         isc = is;
         way = w;
-        ground = role_knows v t e;
+        footing = role_knows v t e;
         over = λ i a b. let z : i ≡ p = omega arith in rw z (v.queue.newest p at some);
       }
       it alone x = absurd (false≢true x)
@@ -54,7 +54,7 @@ module _ {g : Ghost} {s : St} (v : Inv g s) (t : ℕ) where
       w = role_knows v t e
 
       up : x.fl < w.c
-      up = Queue.stands_above (live_on v t k) (queue_on v t k w.ground) w.h w.c w.way (rw w.isc z)
+      up = Queue.stands_above (live_on v t k) (queue_on v t k w.footing) w.h w.c w.way (rw w.isc z)
 
       it : (d : ℕ) → w.c ≡ suc d → PastAt k (tickets_of g) (taken_by g t) s.links hd cu
       it d y = record {
@@ -64,7 +64,7 @@ module _ {g : Ghost} {s : St} (v : Inv g s) (t : ℕ) where
         isc = rw (← y) w.isc;
         low = omega (arith, up);
         way = rw y at w.way;
-        ground = w.ground;
+        footing = w.footing;
         over = w.over;
       }
 
@@ -79,7 +79,7 @@ module _ {g : Ghost} {s : St} (v : Inv g s) (t : ℕ) where
       w = role_knows v t e
 
       y : (s.links.tl (x.log w.c) ≡ x.log x.lo) × Full x s.links w.h
-      y = Queue.found (live_on v t k) (queue_on v t k w.ground) w.h w.c w.way (rw w.isc z)
+      y = Queue.found (live_on v t k) (queue_on v t k w.footing) w.h w.c w.way (rw w.isc z)
 
       it : HeadAt k (tickets_of g) (taken_by g t) s.links hd (s.links.tl cu)
       it = record {
@@ -87,7 +87,7 @@ module _ {g : Ghost} {s : St} (v : Inv g s) (t : ℕ) where
         ish = w.ish;
         ist = rw (← w.isc) (sym y.0);
         way = y.1;
-        ground = w.ground;
+        footing = w.footing;
         over = w.over;
       }
 
@@ -102,14 +102,14 @@ module _ {g : Ghost} {s : St} (v : Inv g s) (t : ℕ) where
       it : (walked_by k g t).log w.d ≡ link_in (s.links.nx cu)
       it =
           let y : Walker (walked_by k g t) s.links w.h (suc w.d) = w.way in
-          sym ((queue_on v t k w.ground).next w.d (omega (arith, w.low)) (omega arith))
+          sym ((queue_on v t k w.footing).next w.d (omega (arith, w.low)) (omega arith))
           ∙ ap (λ z. link_in (s.links.nx z)) w.isc
 
   -- an owner that sees hands off only looks
   pub ease : {hd cu : ℕ} → s.role t ≡ walk changes hd cu → Inv g (turned s t (walk looks hd cu))
   ease {hd} {cu} e =
       turn g s v t (walk looks hd cu)
-      (record { h = w.h; c = w.c; ish = w.ish; isc = w.isc; way = w.way; ground = w.ground; over = tt })
+      (record { h = w.h; c = w.c; ish = w.ish; isc = w.isc; way = w.way; footing = w.footing; over = tt })
       (never refl)
     where
       w : WalkAt changes (tickets_of g) (taken_by g t) s.links hd cu
@@ -121,8 +121,8 @@ module _ {g : Ghost} {s : St} (v : Inv g s) (t : ℕ) where
     where
       it : (k : WalkKind) → public k ≡ true → HeadAt k (tickets_of g) (taken_by g t) s.links hd tail
           → (g.taken t).end ≤ (g.taken t).beg
-      it looks _ w = w.ground
-      it changes _ w = w.ground
+      it looks _ w = w.footing
+      it changes _ w = w.footing
       it alone x w = absurd (false≢true x)
 
   -- a walker stores the prev of the node that it goes on to
@@ -160,7 +160,7 @@ module _ {g : Ghost} {s : St} (v : Inv g s) (t : ℕ) where
         ish = ish;
         isc = refl;
         way = Queue.walk_pv (live v t) v.queue d dl dh h low w;
-        ground = gr;
+        footing = gr;
         over = tt;
       })
   prev_on changes hd h d ish low w gr ov qt =
@@ -172,7 +172,7 @@ module _ {g : Ghost} {s : St} (v : Inv g s) (t : ℕ) where
         ish = ish;
         isc = refl;
         way = Queue.walk_pv (live v t) v.queue d dl dh h low w;
-        ground = gr;
+        footing = gr;
         over = Queue.clean_pv (live v t) v.queue d dl dh h (omega arith) ov;
       })
   prev_on alone hd h d ish low w gr ov qt =
@@ -189,7 +189,7 @@ module _ {g : Ghost} {s : St} (v : Inv g s) (t : ℕ) where
         ish = ish;
         isc = refl;
         way = Queue.walk_pv lv gr d dl dh h low w;
-        ground = Queue.store_pv lv gr d dl dh;
+        footing = Queue.store_pv lv gr d dl dh;
         over = ov;
       }) (never refl) (spared_own v t mine there refl)
 
@@ -198,7 +198,7 @@ module _ {g : Ghost} {s : St} (v : Inv g s) (t : ℕ) where
   store_prev {k} {hd} {cu} {nn} e qt =
       subst₂ (λ n c. Inv g (relinked s t (set_pv s.links n c) (walk k hd n))) (log_on k w.past.d ∙ w.isn)
       (log_on k (suc w.past.d) ∙ w.past.isc)
-      (prev_on k hd w.past.h w.past.d w.past.ish w.past.low w.past.way w.past.ground
+      (prev_on k hd w.past.h w.past.d w.past.ish w.past.low w.past.way w.past.footing
       w.past.over qt)
     where
       w : LinkAt k (tickets_of g) (taken_by g t) s.links hd cu nn
@@ -238,7 +238,7 @@ module _ {g : Ghost} {s : St} (v : Inv g s) (t : ℕ) where
             ish = w.ish;
             ist = w.ist;
             way = full_tl (tickets_of g) w.h hd tail f;
-            ground = w.ground;
+            footing = w.footing;
             over = tt;
           }) refl
       go changes _ w =
@@ -250,7 +250,7 @@ module _ {g : Ghost} {s : St} (v : Inv g s) (t : ℕ) where
             ish = w.ish;
             ist = w.ist;
             way = full_tl (tickets_of g) w.h hd tail f;
-            ground = w.ground;
+            footing = w.footing;
             over = w.over;
           }) refl
       go alone x w = absurd (false≢true x)
@@ -270,7 +270,7 @@ module _ {g : Ghost} {s : St} (v : Inv g s) (t : ℕ) where
         isc = w.ist;
         mine = record {
           back = λ j a b. f.back j a (omega (arith, w.over));
-          newest = λ p z a. w.ground.newest p z a;
+          newest = λ p z a. w.footing.newest p z a;
         };
       })
       (never refl)
@@ -286,7 +286,7 @@ module _ {g : Ghost} {s : St} (v : Inv g s) (t : ℕ) where
       let f : Full (tickets_of g) s.links w.h = w.way in
       let hj : Held g s.wait 0 g.lo = v.parts.queued g.lo (omega arith) (omega arith) in
       subst (λ x. Inv g (relinked s t (set_nx s.links x n) none)) w.ist
-      (step v t g (set_nx s.links (g.log g.lo) n) s.wait none v.parts queue' w.ground (never refl)
+      (step v t g (set_nx s.links (g.log g.lo) n) s.wait none v.parts queue' w.footing (never refl)
       λ u ne.
       spared_queue v t hj (only_nx s.links (g.log g.lo) n) g
       refl u ne (λ z. omega arith) refl

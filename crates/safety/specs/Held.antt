@@ -144,36 +144,36 @@ module _ (m : Machine) (ok : Ok m) where
     held_at_lem (At.RegisterCas _ _ _) w = is_none_lem w.empty
     held_at_lem (At.CompletedLoad _) w = is_none_lem w
     held_at_lem (At.Park _) w = is_none_lem w
-    held_at_lem (At.WalkTail (ForQueue _) seen _) w = is_looking (hands_off seen) w.ground
-    held_at_lem (At.WalkTail ReadUnlock seen _) w = is_none_lem w.ground
+    held_at_lem (At.WalkTail (ForQueue _) seen _) w = is_looking (hands_off seen) w.footing
+    held_at_lem (At.WalkTail ReadUnlock seen _) w = is_none_lem w.footing
     held_at_lem (At.WalkTail Downgrade seen _) w =
         let y : Walks part links w.h w.c = w.way in
-        is_alone seen w.h (omega arith) w.over w.ish w.ground
-    held_at_lem (At.WalkNext (ForQueue _) seen _) w = is_looking (hands_off seen) w.ground
-    held_at_lem (At.WalkNext ReadUnlock seen _) w = is_none_lem w.ground
+        is_alone seen w.h (omega arith) w.over w.ish w.footing
+    held_at_lem (At.WalkNext (ForQueue _) seen _) w = is_looking (hands_off seen) w.footing
+    held_at_lem (At.WalkNext ReadUnlock seen _) w = is_none_lem w.footing
     held_at_lem (At.WalkNext Downgrade seen _) w =
         let y : Walks part links w.h (suc w.d) = w.way in
-        is_alone seen w.h (omega arith) w.over w.ish w.ground
-    held_at_lem (At.WalkPrev (ForQueue _) seen _ _) w = is_looking (hands_off seen) w.past.ground
-    held_at_lem (At.WalkPrev ReadUnlock seen _ _) w = is_none_lem w.past.ground
+        is_alone seen w.h (omega arith) w.over w.ish w.footing
+    held_at_lem (At.WalkPrev (ForQueue _) seen _ _) w = is_looking (hands_off seen) w.past.footing
+    held_at_lem (At.WalkPrev ReadUnlock seen _ _) w = is_none_lem w.past.footing
     held_at_lem (At.WalkPrev Downgrade seen _ _) w =
         let y : Walks part links w.past.h (suc w.past.d) = w.past.way in
-        is_alone seen w.past.h (omega arith) w.past.over w.past.ish w.past.ground
-    held_at_lem (At.WalkHead (ForQueue _) seen _) w = is_looking (hands_off seen) w.ground
-    held_at_lem (At.WalkHead ReadUnlock seen _) w = is_none_lem w.ground
+        is_alone seen w.past.h (omega arith) w.past.over w.past.ish w.past.footing
+    held_at_lem (At.WalkHead (ForQueue _) seen _) w = is_looking (hands_off seen) w.footing
+    held_at_lem (At.WalkHead ReadUnlock seen _) w = is_none_lem w.footing
     held_at_lem (At.WalkHead Downgrade seen _) w =
-        let y : Full part links w.h = w.way in is_alone seen w.h (omega arith) w.over w.ish w.ground
+        let y : Full part links w.h = w.way in is_alone seen w.h (omega arith) w.over w.ish w.footing
     held_at_lem (At.QueueCas _ _) w = is_none_lem w
-    held_at_lem (At.SplitPrev _ _ _) w = is_none_lem w.ground
-    held_at_lem (At.SplitStore _ _ _ _) w = is_none_lem w.it.ground
+    held_at_lem (At.SplitPrev _ _ _) w = is_none_lem w.footing
+    held_at_lem (At.SplitStore _ _ _ _) w = is_none_lem w.it.footing
     held_at_lem (At.SplitCas _ _ tail) w = is_one tail _ w
     held_at_lem (At.SplitRestore _ _ tail _) w = is_one tail _ w.it
-    held_at_lem (At.TakeCas _ _ _) w = is_none_lem w.ground
+    held_at_lem (At.TakeCas _ _ _) w = is_none_lem w.footing
     held_at_lem (At.WakePrev _ current) w = is_waking current w
     held_at_lem (At.WakeStore _ current prev) w = is_storing current prev w
     held_at_lem At.ReadUnlockLoad w = is_none_lem w
     held_at_lem (At.ReadUnlockCas _) w = is_none_lem w
-    held_at_lem (At.Subtract _ _) w = is_none_lem w.ground
+    held_at_lem (At.Subtract _ _) w = is_none_lem w.footing
     held_at_lem At.WriteUnlockCas w = is_none_lem w
     held_at_lem (At.ReleaseCas _) w = is_none_lem w
     held_at_lem At.DowngradeCas w = is_none_lem w
