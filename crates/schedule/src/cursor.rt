@@ -52,6 +52,7 @@ fn moved_to(cursor: Cursor, seen: Seen) -> Moved
     }
 }
 
+#[tactic(auto, unfolding(crate::specs::Cursor::moved_of))]
 pub fn next(c: Cursor, s: &[u8]) -> Moved
     ensures { result ≡ moved_of c s.now }
 {

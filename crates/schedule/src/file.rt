@@ -62,6 +62,7 @@ fn right_length(s: &[u8]) -> bool
     false
 }
 
+#[tactic(auto, unfolding(crate::specs::File::checked_of))]
 pub fn check(s: &[u8]) -> Checked
     ensures { result ≡ checked_of s.now }
 {
