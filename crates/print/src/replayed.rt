@@ -31,6 +31,7 @@ fn put_woken(line: Line, woken: Owner) -> Line
 }
 
 // An event's line, without its end.
+#[tactic(auto, using(crate::specs::Laws::put_both))]
 pub fn event_line(at: usize, thread: ThreadNumber, answer: Answer, woken: Owner, word: Word) -> Line
     ensures { result ≡ line_of (event_text at thread answer woken word) }
 {
@@ -41,12 +42,14 @@ pub fn event_line(at: usize, thread: ThreadNumber, answer: Answer, woken: Owner,
     woke.decimal(word.0)
 }
 
+#[tactic(auto, using(crate::specs::Laws::put_both))]
 pub fn end_line(run: usize) -> Line
     ensures { result ≡ line_of (end_text run) }
 {
     Line::blank().text(b"end ").decimal(run as u64)
 }
 
+#[tactic(auto, using(crate::specs::Laws::put_both))]
 pub fn refused_line(number: u8) -> Line
     ensures { result ≡ line_of (refused_text number) }
 {
