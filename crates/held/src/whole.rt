@@ -1,6 +1,4 @@
 // A whole file, checked and replayed, with what it leaves unread of the caller's own slice: of a refused file, all.
-// Walked by hand; a caller with a local of the struct is not covered, so programs call schedule's `replay_file` and
-// `rest_of_file`.
 ghost use Rattle.std.specs.Prelude.{◌≡◌};
 ghost use Rattle.held.specs.Held.{file_shown_of, file_held_of};
 

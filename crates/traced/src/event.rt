@@ -15,6 +15,7 @@ use state::{Machine, Refusal, Reply, THREADS, Verdict};
 use word::{NodeNumber, ThreadNumber};
 
 // Past the waiters' length their array has none.
+#[tactic(auto, using(print::specs::Laws::put_both, print::specs::Laws::put_none))]
 fn put_node(line: Line, n: NodeNumber) -> Line
     ensures { result ≡ put_all line (node_text n) }
 {
@@ -36,6 +37,7 @@ fn put_nodes(line: Line, w: Waiters) -> Line
     all
 }
 
+#[tactic(auto, using(print::specs::Laws::put_both, print::specs::Laws::put_none))]
 fn put_refusal(line: Line, refusal: Refusal) -> Line
     ensures { result ≡ put_all line (refusal_text refusal) }
 {
@@ -57,6 +59,7 @@ fn put_listed(line: Line, w: Waiters) -> Line
     put_nodes(line, w)
 }
 
+#[tactic(auto, using(print::specs::Laws::put_both, print::specs::Laws::put_none))]
 fn put_waiters(line: Line, w: Waiters) -> Line
     ensures { result ≡ put_all line (waiters_text w) }
 {
@@ -68,6 +71,7 @@ fn put_waiters(line: Line, w: Waiters) -> Line
     }
 }
 
+#[tactic(auto, using(print::specs::Laws::put_both, print::specs::Laws::put_none))]
 fn put_sits(line: Line, sits: Sits) -> Line
     ensures { result ≡ put_all line (sits_text sits) }
 {
@@ -80,6 +84,7 @@ fn put_sits(line: Line, sits: Sits) -> Line
 }
 
 // The raw number, where it is not the one that is due.
+#[tactic(auto, using(print::specs::Laws::put_both, print::specs::Laws::put_none))]
 fn put_raw(line: Line, r: Readers) -> Line
     ensures { result ≡ put_all line (raw_text r) }
 {
@@ -89,6 +94,7 @@ fn put_raw(line: Line, r: Readers) -> Line
     line.text(b", wrong: ").decimal(r.raw)
 }
 
+#[tactic(auto, using(print::specs::Laws::put_both, print::specs::Laws::put_none))]
 fn put_counted(line: Line, r: Readers) -> Line
     ensures { result ≡ put_all line (counted_text r) }
 {
@@ -100,6 +106,7 @@ fn put_counted(line: Line, r: Readers) -> Line
     put_raw(put_sits(counted, sits), r)
 }
 
+#[tactic(auto, using(print::specs::Laws::put_both, print::specs::Laws::put_none))]
 fn put_readers(line: Line, r: Readers) -> Line
     ensures { result ≡ put_all line (readers_text r) }
 {
@@ -111,12 +118,14 @@ fn put_readers(line: Line, r: Readers) -> Line
     }
 }
 
+#[tactic(auto, using(print::specs::Laws::put_both, print::specs::Laws::put_none))]
 fn put_state(line: Line, m: Machine) -> Line
     ensures { result ≡ put_all line (state_text m) }
 {
     put_readers(put_waiters(line, listing(m)), reader_count(m))
 }
 
+#[tactic(auto, using(print::specs::Laws::put_both, print::specs::Laws::put_none))]
 fn replied_line(at: usize, thread: ThreadNumber, reply: Reply, m: Machine) -> Line
     ensures { result ≡ line_of (replied_text at thread reply m) }
 {

@@ -32,6 +32,7 @@ fn put_token(line: Line, token: bool) -> Line
     line.text(b", no token")
 }
 
+#[tactic(auto, using(print::specs::Laws::put_both, print::specs::Laws::put_none))]
 fn put_rouser(line: Line, m: Machine, k: u8) -> Line
     ensures { result ≡ put_all line (rouser_text m k) }
 {
@@ -60,6 +61,7 @@ fn put_number(line: Line, t: ThreadNumber) -> Line
     line.decimal(t.0 as u64)
 }
 
+#[tactic(auto, using(print::specs::Laws::put_both, print::specs::Laws::put_none))]
 fn put_standing(line: Line, m: Machine, standing: Standing) -> Line
     ensures { result ≡ put_all line (standing_text m standing) }
 {
@@ -73,6 +75,7 @@ fn put_standing(line: Line, m: Machine, standing: Standing) -> Line
     }
 }
 
+#[tactic(auto, using(print::specs::Laws::put_both, print::specs::Laws::put_none))]
 fn record_line(t: ThreadNumber, its: Thread) -> Line
     ensures { result ≡ line_of (record_text t its) }
 {
@@ -98,6 +101,7 @@ fn record_of(m: Machine, k: u8) -> Thread
     }
 }
 
+#[tactic(auto, using(print::specs::Laws::put_both, print::specs::Laws::put_none))]
 pub fn thread_line(m: Machine, t: ThreadNumber) -> Line
     ensures { result ≡ line_of (thread_text m t) }
 {
