@@ -37,7 +37,6 @@ use Rattle.listing.specs.Laws.{in_range, waiters_bad_count, waiters_within, wait
 use Rattle.listing.specs.ReaderCount.{readers_of}
 use Rattle.listing.specs.declared.reader_count.Readers.{Readers}
 use Rattle.listing.specs.declared.reader_count.Sits.{Sits}
-use Rattle.listing.specs.declared.reader_count.Sits.TheVariants as Sits
 use Rattle.standing.specs.Look.{completed_of, among_below}
 use Rattle.standing.specs.Part.{registered_of}
 use Rattle.standing.specs.Rouses.{rouses_of}

@@ -28,8 +28,7 @@ loop-visits-preserved c =
     let in_range = sym c.if-not-within.ensures in
     let node = c.node_by-n.ensures in
     let unset = ap (λ n. is_none n.tail) (sym node) ∙ sym c.if-not-is_none.ensures in
-    let next = c.to_node-at.ensures ∙ ap (λ n. to_node n.next) node in
-    (
+    let next = c.to_node-at.ensures ∙ ap (λ n. to_node n.next) node in (
       on l.invariant.0 l.at (omega arith),
       rw next (set_on l.invariant.0 l.at (omega arith) in_range unset) ∙ l.invariant.1,
     )
@@ -39,21 +38,21 @@ right : (c : goal.In-Tail)
 right c =
     let l = c.loop-visits in
     elim c.if-count-visits.branch [
-      then-count-visits w ↦
-        rw (w.stood-is, w.visits-is, w.found-is)
-        (set_spent l.invariant.0 l.at (omega (arith, w.if-count-visits.true)) ∙ l.invariant.1)
-    | else-count-visits+then-not-within w ↦
-        rw (w.stood-is, w.visits-is, w.found-is)
-        (set_lost l.invariant.0 l.at (sym w.if-not-within.ensures) ∙ l.invariant.1)
-    | else-count-visits+else-not-within+then-not-is_none w ↦
-        let in_range = sym w.if-not-within.ensures in
-        let node = w.node_by-n.ensures in
-        let set = ap (λ n. is_none n.tail) (sym node) ∙ sym w.if-not-is_none.ensures in
-        rw (w.stood-is, w.visits-is, w.found-is) (
-          on l.invariant.0 l.at (omega (arith, w.if-count-visits.false)),
-          in_range,
-          rw node (set_met l.invariant.0 l.at (omega (arith, w.if-count-visits.false)) in_range set) ∙ l.invariant.1,
-        )
+      | then-count-visits w ↦
+          rw (w.stood-is, w.visits-is, w.found-is)
+          (set_spent l.invariant.0 l.at (omega (arith, w.if-count-visits.true)) ∙ l.invariant.1)
+      | else-count-visits+then-not-within w ↦
+          rw (w.stood-is, w.visits-is, w.found-is)
+          (set_lost l.invariant.0 l.at (sym w.if-not-within.ensures) ∙ l.invariant.1)
+      | else-count-visits+else-not-within+then-not-is_none w ↦
+          let in_range = sym w.if-not-within.ensures in
+          let node = w.node_by-n.ensures in
+          let set = ap (λ n. is_none n.tail) (sym node) ∙ sym w.if-not-is_none.ensures in
+          rw (w.stood-is, w.visits-is, w.found-is) (
+            on l.invariant.0 l.at (omega (arith, w.if-count-visits.false)),
+            in_range,
+            rw node (set_met l.invariant.0 l.at (omega (arith, w.if-count-visits.false)) in_range set) ∙ l.invariant.1,
+          )
     ]
 
 at_tail : (c : goal.In-Tail)
@@ -71,9 +70,9 @@ returns-in-Refused c =
     let l = c.loop-visits in
     c.empty.ensures
     ∙ elim c.if-count-visits.branch [
-      then-count-visits w ↦ set_spent l.invariant.0 l.at (omega (arith, w.if-count-visits.true)) ∙ l.invariant.1
-    | else-count-visits+then-not-within w ↦
-        set_lost l.invariant.0 l.at (sym w.if-not-within.ensures) ∙ l.invariant.1
-    | else-count-visits+else-not-within+then-not-is_none w ↦
-        absurd (let e : Tail _ ≡ NotFound = sym w.found-is ∙ c.in-Refused.is in cc)
+      | then-count-visits w ↦ set_spent l.invariant.0 l.at (omega (arith, w.if-count-visits.true)) ∙ l.invariant.1
+      | else-count-visits+then-not-within w ↦
+          set_lost l.invariant.0 l.at (sym w.if-not-within.ensures) ∙ l.invariant.1
+      | else-count-visits+else-not-within+then-not-is_none w ↦
+          absurd (let e : Tail _ ≡ NotFound = sym w.found-is ∙ c.in-Refused.is in cc)
     ]

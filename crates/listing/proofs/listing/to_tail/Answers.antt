@@ -22,12 +22,11 @@ pub loop-at-preserved : goal.loop-at-preserved
 loop-at-preserved c =
     let l = c.loop-at in
     let next = c.to_node-at.ensures ∙ ap (λ n. to_node n.next) c.node_by.ensures in
-    let in_range = sym c.if-not-within.ensures in
-    (
+    let in_range = sym c.if-not-within.ensures in (
       on l.invariant.0 c.to_node-at.result (omega arith),
       in_range,
       tail_on l.invariant.0 c.args.tail l.at c.loop-at-test.true c.to_node-at.result next (omega arith) in_range
-      ∙ l.invariant.2,
+          ∙ l.invariant.2,
     )
 
 pub returns : goal.returns

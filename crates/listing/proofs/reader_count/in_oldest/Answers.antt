@@ -1,13 +1,12 @@
 -- `listing::reader_count::in_oldest` meets its contract: a listing that is not refused has a last node, which is
 -- within, by the laws of listings.
 -- Assumes nothing.
-use Rattle.std.proofs.Common.{ℕ, ◌-◌, ◌≤◌, ◌<◌, true, ◌≡◌, refl, sym, ap, ◌∙◌, arith, length, get_or}
+use Rattle.std.proofs.Common.{ℕ, ◌-◌, ◌≤◌, ◌<◌, true, ◌≡◌, ap, ◌∙◌, arith, length, get_or}
 use Rattle.word.specs.Number.{none}
 use Rattle.word.specs.Flags.{queued}
 use Rattle.word.specs.declared.number.NodeNumber.{NodeNumber}
 use Rattle.state.specs.Machine.{thread_limit, good_count}
-use Rattle.state.specs.declared.answer.Refusal.{Refusal}
-use Rattle.state.specs.declared.answer.Verdict.TheVariants.{Fine, Refused}
+use Rattle.state.specs.declared.answer.Verdict.TheVariants.{Fine}
 use Rattle.state.specs.declared.machine.Machine.{Machine}
 use Rattle.listing.specs.Listing.{Listed, lost, listed, within, listed_of, waiters_by, waiters_of}
 use Rattle.listing.specs.ReaderCount.{traced_of, in_oldest_by, in_oldest_of}

@@ -1,5 +1,5 @@
 -- `listing::reader_count::reader_count` meets its contract: n threads have at most n reads. Assumes nothing.
-use Rattle.std.proofs.Common.{sym, ap, ◌∙◌, arith}
+use Rattle.std.proofs.Common.{sym, arith}
 use Rattle.state.specs.Machine.{thread_limit}
 use Rattle.listing.specs.Laws.{in_range, reads_most}
 use Rattle.listing.proofs.reader_count.reader_count.Goals as goal

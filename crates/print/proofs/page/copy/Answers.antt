@@ -11,8 +11,7 @@ pub loop-i-preserved : goal.loop-i-preserved
 loop-i-preserved c =
     let l = c.loop-i in
     let a = c.args in
-    let b = get_or a.line.bytes l.i 0 in
-    (
+    let b = get_or a.line.bytes l.i 0 in (
       omega arith,
       ap (λ p. set p (a.at + l.i) b) l.invariant.1 ∙ copy_more a.page.now a.at a.line.bytes l.i,
     )

@@ -12,11 +12,10 @@ loop-i-init c = (omega arith, among_none c.args.w.nodes c.args.n)
 pub loop-i-preserved : goal.loop-i-preserved
 loop-i-preserved c =
     let l = c.loop-i in
-    let a = c.args in
-    (
+    let a = c.args in (
       omega arith,
       c.same_or-found.ensures
-      ∙ (ap (λ f. same_or f (get_or a.w.nodes l.i none) a.n) l.invariant.1 ∙ among_more l.i a.w.nodes a.n),
+          ∙ (ap (λ f. same_or f (get_or a.w.nodes l.i none) a.n) l.invariant.1 ∙ among_more l.i a.w.nodes a.n),
     )
 
 pub returns : goal.returns

@@ -17,12 +17,11 @@ loop-i-preserved c =
     let l = c.loop-i in
     let a = c.args in
     let ns = a.w.nodes in
-    let next = node_text (get_or ns l.i none) in
-    (
+    let next = node_text (get_or ns l.i none) in (
       omega arith,
       c.put_node-all.ensures
-      ∙ (ap (λ x. put_all x next) l.invariant.1
-      ∙ (put_both a.line (nodes_text l.i ns) next ∙ ap (put_all a.line) (nodes_more l.i ns))),
+          ∙ (ap (λ x. put_all x next) l.invariant.1
+          ∙ (put_both a.line (nodes_text l.i ns) next ∙ ap (put_all a.line) (nodes_more l.i ns))),
     )
 
 pub returns : goal.returns

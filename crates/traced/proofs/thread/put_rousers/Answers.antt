@@ -13,12 +13,11 @@ pub loop-k-preserved : goal.loop-k-preserved
 loop-k-preserved c =
     let l = c.loop-k in
     let a = c.args in
-    let next = rouser_text a.m l.k in
-    (
+    let next = rouser_text a.m l.k in (
       omega arith,
       c.put_rouser-all.ensures
-      ∙ (ap (λ x. put_all x next) l.invariant.1
-      ∙ (put_both a.line (rousers_text l.k a.m) next ∙ ap (put_all a.line) (rousers_more l.k a.m))),
+          ∙ (ap (λ x. put_all x next) l.invariant.1
+          ∙ (put_both a.line (rousers_text l.k a.m) next ∙ ap (put_all a.line) (rousers_more l.k a.m))),
     )
 
 pub returns : goal.returns
