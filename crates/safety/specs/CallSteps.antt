@@ -26,12 +26,12 @@ use Rattle.lock.specs.declared.code.Call.{Call}
 use Rattle.lock.specs.declared.code.Call.TheVariants.{Read, Write, TryRead, TryWrite, ReadUnlock, WriteUnlock}
 use Rattle.lock.specs.declared.code.Call.TheVariants.{Downgrade}
 use Rattle.promises.specs.Shared.{lock_done}
-use Rattle.promises.specs.Obeys.{All, same_word, read_granted, write_granted}
-use Rattle.promises.specs.RuleEnds.{try_read_ends, try_read_cas_ends, try_write_ends, contend_ends, contend_cas_ends}
-use Rattle.promises.specs.RuleEnds.{register_ends, completed_ends, park_ends, walk_tail_ends, found_ends}
-use Rattle.promises.specs.RuleEnds.{queue_cas_ends, split_prev_ends, split_cas_ends, take_cas_ends, wake_store_ends}
-use Rattle.promises.specs.RuleEnds.{read_unlock_ends, read_unlock_cas_ends, subtract_ends, write_unlock_ends}
-use Rattle.promises.specs.RuleEnds.{release_ends, downgrade_ends, downgrade_slow_ends}
+use Rattle.promises.proofs.Obeys.{All, same_word, read_granted, write_granted}
+use Rattle.promises.proofs.RuleEnds.{try_read_ends, try_read_cas_ends, try_write_ends, contend_ends, contend_cas_ends}
+use Rattle.promises.proofs.RuleEnds.{register_ends, completed_ends, park_ends, walk_tail_ends, found_ends}
+use Rattle.promises.proofs.RuleEnds.{queue_cas_ends, split_prev_ends, split_cas_ends, take_cas_ends, wake_store_ends}
+use Rattle.promises.proofs.RuleEnds.{read_unlock_ends, read_unlock_cas_ends, subtract_ends, write_unlock_ends}
+use Rattle.promises.proofs.RuleEnds.{release_ends, downgrade_ends, downgrade_slow_ends}
 use Rattle.invariant.specs.Table.{about, Allowed}
 use Rattle.safety.specs.Calls.{also, Work}
 use Rattle.safety.specs.Phases.{phase, releases, Left, Fits}

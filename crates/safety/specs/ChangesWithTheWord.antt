@@ -24,12 +24,12 @@ use Rattle.lock.specs.Effect.{keeps, effect_of, lock_effect, stand_of}
 use Rattle.lock.specs.Event.{event_of}
 use Rattle.promises.specs.Program.{place_of}
 use Rattle.promises.specs.Shared.{lock_done}
-use Rattle.promises.specs.Obeys.{All, agrees_word}
-use Rattle.promises.specs.RuleEnds.{release_ends, downgrade_slow_ends}
+use Rattle.promises.proofs.Obeys.{All, agrees_word}
+use Rattle.promises.proofs.RuleEnds.{release_ends, downgrade_slow_ends}
 use Rattle.promises.specs.Happened.{Stepping, Happened, begun, stepped, happened}
 use Rattle.promises.specs.Tables.{contended, asserted}
-use Rattle.promises.specs.Afterwards.{seen, effect_is, step_moves, begun_effect}
-use Rattle.promises.specs.Theorems.{refusal_changes_nothing, refused_has_no_effect}
+use Rattle.promises.proofs.Afterwards.{seen, effect_is, step_moves, begun_effect}
+use Rattle.promises.proofs.Theorems.{refusal_changes_nothing, refused_has_no_effect}
 use Rattle.queue.specs.Tests.{not_true, not_false}
 use Rattle.invariant.specs.Table.{about}
 use Rattle.invariant.specs.Invariant.{writers, leavers}

@@ -12,7 +12,7 @@ use Rattle.state.specs.declared.answer.Reply.TheVariants.{Accepted, Refused}
 use Rattle.listing.specs.Listing.{Listed, listed}
 use Rattle.standing.specs.Part.{part_of}
 use Rattle.lock.specs.Event.{event_of}
-use Rattle.promises.specs.Theorems.{changes_little, refusal_changes_nothing}
+use Rattle.promises.proofs.Theorems.{changes_little, refusal_changes_nothing}
 use Rattle.lock.specs.Effect.{QueueEffect, stands, registers, sets_aside, restores, takes_tail, takes_all, completes}
 use Rattle.queue.specs.Updates.{upd, upd_same, upd_other}
 use Rattle.queue.specs.Tickets.{Ghost, Span, Parts, oldest_span, empty_span, whole_span, rest_span}

@@ -21,7 +21,7 @@ use Rattle.lock.specs.Effect.{LockEffect, keeps, grants_read, grants_write, rele
 use Rattle.lock.specs.Effect.{releases_write, downgrades, Stand, release_of, lock_effect}
 use Rattle.lock.specs.Effect.{word_changed, stand_of, held_after, at_end, at_end_or_walk, at_end_or_release}
 use Rattle.lock.specs.Event.{event_of}
-use Rattle.promises.specs.Theorems.{changes_little, refusal_changes_nothing, holding_follows_effect}
+use Rattle.promises.proofs.Theorems.{changes_little, refusal_changes_nothing, holding_follows_effect}
 use Rattle.queue.specs.Updates.{upd, upd_same, upd_other, upd_self, eq?}
 use Rattle.queue.specs.Sums.{sum, sum_le, sum_two, sum_some}
 use Rattle.queue.specs.Tickets.{Ghost}

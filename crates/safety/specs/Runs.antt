@@ -17,7 +17,7 @@ use Rattle.state.specs.declared.machine.Fresh.{Fresh}
 use Rattle.state.specs.declared.machine.Machine.{Machine}
 use Rattle.lock.specs.Event.{event_of}
 use Rattle.promises.specs.Refusals.{number_given}
-use Rattle.promises.specs.Theorems.{changes_little, refusal_changes_nothing}
+use Rattle.promises.proofs.Theorems.{changes_little, refusal_changes_nothing}
 use Rattle.queue.specs.Tests.{never}
 use Rattle.queue.specs.Invariant as Q
 use Rattle.invariant.specs.Invariant.{Inv}

@@ -26,13 +26,13 @@ use Rattle.state.specs.declared.place.Place.{Place}
 use Rattle.lock.specs.Begin.{is_idle}
 use Rattle.lock.specs.Effect.{effect_of, lock_effect, stand_of, held_after, grants}
 use Rattle.promises.specs.Goes.{node_for}
-use Rattle.promises.specs.Obeys.{kept_same}
+use Rattle.promises.proofs.Obeys.{kept_same}
 use Rattle.promises.specs.Parts.{same?, owner_is, nobody_not, is_thread, answer_is, thread_is, machine_is}
 use Rattle.promises.specs.Parts.{Sort, sorts, kept_is}
 use Rattle.promises.specs.Places.{never}
 use Rattle.promises.specs.Program.{Program, place_of, access_at}
 use Rattle.promises.specs.RefusalFirst.{NoneGiven, past, none_exactly}
-use Rattle.promises.specs.RefusalProofs.{reply_number}
+use Rattle.promises.proofs.RefusalProofs.{reply_number}
 use Rattle.promises.specs.Refusals.{and, or, begins, steps, number_given, refusal_rows}
 use Rattle.promises.specs.Shared.{Unless, writes_word, takes_token, kept_but, fills, tries}
 use Rattle.promises.specs.Statements.{Ended, Began, Owned, NodeAfter, same, accessed, filled}

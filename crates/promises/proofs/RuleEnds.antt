@@ -48,7 +48,7 @@ use Rattle.release.specs.Downgrade.{downgrade_cas_of, downgraded_word, downgrade
 use Rattle.release.specs.ReadUnlock.{read_unlock_by, read_unlock_judged, read_unlock_cas_by, read_unlock_cas_of, subtract_of}
 use Rattle.release.specs.UnlockContended.{released_to, release_cas_of}
 use Rattle.release.specs.WriteUnlock.{write_unlock_cas_of}
-use Rattle.promises.specs.Obeys.{All}
+use Rattle.promises.proofs.Obeys.{All}
 
 module _ (v : View) (P : Change → Type 0) where
   -- nothing changed, and the call goes on at a place

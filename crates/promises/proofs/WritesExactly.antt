@@ -40,11 +40,11 @@ use Rattle.release.specs.ReadUnlock.{read_unlock_judged, read_unlock_cas_by}
 use Rattle.lock.specs.Advance.{advance_of}
 use Rattle.lock.specs.Event.{event_of}
 use Rattle.lock.specs.Laws.{slot_at, good_count_lem}
-use Rattle.promises.specs.Afterwards.{fails_17, step_made, by_rule, seen, obeyed, touched}
-use Rattle.promises.specs.Obeys.{All, agrees_word}
+use Rattle.promises.proofs.Afterwards.{fails_17, step_made, by_rule, seen, obeyed, touched}
+use Rattle.promises.proofs.Obeys.{All, agrees_word}
 use Rattle.promises.specs.Program.{place_of, access_at}
-use Rattle.promises.specs.RuleEnds.{try_read_ends, contend_ends, completed_ends, walk_tail_ends, found_ends}
-use Rattle.promises.specs.RuleEnds.{split_prev_ends, wake_store_ends, read_unlock_ends, subtract_ends}
+use Rattle.promises.proofs.RuleEnds.{try_read_ends, contend_ends, completed_ends, walk_tail_ends, found_ends}
+use Rattle.promises.proofs.RuleEnds.{split_prev_ends, wake_store_ends, read_unlock_ends, subtract_ends}
 use Rattle.promises.specs.Shared.{woken_by}
 use Rattle.promises.specs.Statements.{WritesExactly}
 use Rattle.promises.specs.Tables.{bit, value_at, compared, read_to, permit_to, unlock_to, release_to, downgrade_to}

@@ -16,17 +16,17 @@ use Rattle.state.specs.declared.view.View.{View}
 use Rattle.lock.specs.Advance.{advance_of}
 use Rattle.lock.specs.Event.{event_of}
 use Rattle.lock.specs.Laws.{slot_at, good_count_lem}
-use Rattle.promises.specs.Afterwards.{step_made, by_rule, seen, next_node, touched, own_place}
+use Rattle.promises.proofs.Afterwards.{step_made, by_rule, seen, next_node, touched, own_place}
 use Rattle.promises.specs.Goes.{node_for}
-use Rattle.promises.specs.Obeys.{All}
+use Rattle.promises.proofs.Obeys.{All}
 use Rattle.promises.specs.Program.{place_of, access_at}
-use Rattle.promises.specs.RuleEnds.{try_read_ends, try_read_cas_ends, try_write_ends, contend_ends}
-use Rattle.promises.specs.RuleEnds.{contend_cas_ends}
-use Rattle.promises.specs.RuleEnds.{register_ends, completed_ends, park_ends, walk_tail_ends, found_ends}
-use Rattle.promises.specs.RuleEnds.{queue_cas_ends, split_prev_ends, split_cas_ends, take_cas_ends}
-use Rattle.promises.specs.RuleEnds.{wake_store_ends}
-use Rattle.promises.specs.RuleEnds.{read_unlock_ends, read_unlock_cas_ends, subtract_ends, write_unlock_ends}
-use Rattle.promises.specs.RuleEnds.{release_ends, downgrade_ends, downgrade_slow_ends}
+use Rattle.promises.proofs.RuleEnds.{try_read_ends, try_read_cas_ends, try_write_ends, contend_ends}
+use Rattle.promises.proofs.RuleEnds.{contend_cas_ends}
+use Rattle.promises.proofs.RuleEnds.{register_ends, completed_ends, park_ends, walk_tail_ends, found_ends}
+use Rattle.promises.proofs.RuleEnds.{queue_cas_ends, split_prev_ends, split_cas_ends, take_cas_ends}
+use Rattle.promises.proofs.RuleEnds.{wake_store_ends}
+use Rattle.promises.proofs.RuleEnds.{read_unlock_ends, read_unlock_cas_ends, subtract_ends, write_unlock_ends}
+use Rattle.promises.proofs.RuleEnds.{release_ends, downgrade_ends, downgrade_slow_ends}
 use Rattle.promises.specs.Statements.{FillsExactly}
 use Rattle.promises.specs.Values.{InWord, in_word_lem, own_touched}
 

@@ -32,21 +32,21 @@ use Rattle.lock.specs.declared.code.Call.{Call}
 use Rattle.lock.specs.declared.code.Call.TheVariants.{Read, Write, TryRead, TryWrite, ReadUnlock, WriteUnlock}
 use Rattle.lock.specs.declared.code.Call.TheVariants.{Downgrade}
 use Rattle.lock.specs.declared.code.Code.TheVariants.{Begin}
-use Rattle.promises.specs.Afterwards.{step_made, step_not_begin, by_rule, seen, own_place, answered}
-use Rattle.promises.specs.Afterwards.{begun_is}
-use Rattle.promises.specs.Grants.{answered_at_the_grant}
+use Rattle.promises.proofs.Afterwards.{step_made, step_not_begin, by_rule, seen, own_place, answered}
+use Rattle.promises.proofs.Afterwards.{begun_is}
+use Rattle.promises.proofs.Grants.{answered_at_the_grant}
 use Rattle.promises.specs.Happened.{Begun as BegunCall, Stepping, Happened, begun, stepped, happened}
-use Rattle.promises.specs.Obeys.{All}
+use Rattle.promises.proofs.Obeys.{All}
 use Rattle.promises.specs.Places.{never}
 use Rattle.promises.specs.Program.{place_of}
 use Rattle.promises.specs.Refusals.{and, begins}
-use Rattle.promises.specs.RuleEnds.{try_read_ends, try_read_cas_ends, try_write_ends, contend_ends}
-use Rattle.promises.specs.RuleEnds.{contend_cas_ends}
-use Rattle.promises.specs.RuleEnds.{register_ends, completed_ends, park_ends, walk_tail_ends, found_ends}
-use Rattle.promises.specs.RuleEnds.{queue_cas_ends, split_prev_ends, split_cas_ends, take_cas_ends}
-use Rattle.promises.specs.RuleEnds.{wake_store_ends}
-use Rattle.promises.specs.RuleEnds.{read_unlock_ends, read_unlock_cas_ends, subtract_ends, write_unlock_ends}
-use Rattle.promises.specs.RuleEnds.{release_ends, downgrade_ends, downgrade_slow_ends}
+use Rattle.promises.proofs.RuleEnds.{try_read_ends, try_read_cas_ends, try_write_ends, contend_ends}
+use Rattle.promises.proofs.RuleEnds.{contend_cas_ends}
+use Rattle.promises.proofs.RuleEnds.{register_ends, completed_ends, park_ends, walk_tail_ends, found_ends}
+use Rattle.promises.proofs.RuleEnds.{queue_cas_ends, split_prev_ends, split_cas_ends, take_cas_ends}
+use Rattle.promises.proofs.RuleEnds.{wake_store_ends}
+use Rattle.promises.proofs.RuleEnds.{read_unlock_ends, read_unlock_cas_ends, subtract_ends, write_unlock_ends}
+use Rattle.promises.proofs.RuleEnds.{release_ends, downgrade_ends, downgrade_slow_ends}
 use Rattle.promises.specs.Shared.{tries, is_yes, is_done, is_no, is_went, ends}
 use Rattle.promises.specs.Statements.{Ended, Began, EndsExactly}
 use Rattle.promises.specs.Tables.{begins_at}

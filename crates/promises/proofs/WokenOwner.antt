@@ -29,7 +29,7 @@ use Rattle.lock.specs.Event.{event_of}
 use Rattle.lock.specs.Landed.{woken_of, tokened_of}
 use Rattle.lock.specs.Laws.{slot_at, good_count_lem}
 use Rattle.lock.specs.Still.{idle_is}
-use Rattle.promises.specs.Afterwards.{laid, landed, woke, obeyed, touched}
+use Rattle.promises.proofs.Afterwards.{laid, landed, woke, obeyed, touched}
 use Rattle.promises.specs.Happened.{Begun, Stepping, Happened, begun, stepped, happened}
 use Rattle.promises.specs.Program.{place_of, access_at}
 use Rattle.promises.specs.Shared.{woken_by}

@@ -37,7 +37,7 @@ use Rattle.lock.specs.declared.code.Code.{Code}
 use Rattle.lock.specs.declared.code.Code.TheVariants.{Begin, Step, Fail, Unknown}
 use Rattle.promises.specs.Refusals.{number_given, row, first_of, idle, wrong_holding, step_rows, refusal_rows}
 use Rattle.promises.specs.RefusalFirst.{First, NoneGiven, first_exactly, none_exactly}
-use Rattle.promises.specs.RefusalSteps.{step_table}
+use Rattle.promises.proofs.RefusalSteps.{step_table}
 
 -- ── a test and its row ──
 

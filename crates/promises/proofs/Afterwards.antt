@@ -37,9 +37,9 @@ use Rattle.lock.specs.Stored.{get_set, woken_word, woken_nodes, woken_place, wok
 use Rattle.lock.specs.declared.code.Call.{Call}
 use Rattle.lock.specs.declared.code.Code.{Code}
 use Rattle.lock.specs.declared.code.Code.TheVariants.{Begin, Step, Fail, Unknown}
-use Rattle.promises.specs.Changes.{Moves, moves}
+use Rattle.promises.proofs.Changes.{Moves, moves}
 use Rattle.promises.specs.Happened.{Begun, Stepping, Happened, begun, stepped, happened}
-use Rattle.promises.specs.Obeys.{All, obeys}
+use Rattle.promises.proofs.Obeys.{All, obeys}
 use Rattle.promises.specs.Program.{place_of, access_at}
 use Rattle.promises.specs.Refusals.{begins, steps}
 use Rattle.promises.specs.Shared.{Obeys, lock_done}

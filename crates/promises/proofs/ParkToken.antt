@@ -22,12 +22,12 @@ use Rattle.state.specs.declared.view.View.{View}
 use Rattle.lock.specs.Advance.{advance_of}
 use Rattle.lock.specs.Event.{event_of}
 use Rattle.lock.specs.Landed.{woken_of}
-use Rattle.promises.specs.Afterwards.{fails_17, step_made, by_rule, seen, laid, landed, own_thread, woke}
-use Rattle.promises.specs.Obeys.{All}
+use Rattle.promises.proofs.Afterwards.{fails_17, step_made, by_rule, seen, laid, landed, own_thread, woke}
+use Rattle.promises.proofs.Obeys.{All}
 use Rattle.promises.specs.Places.{never}
 use Rattle.promises.specs.Program.{place_of, access_at}
 use Rattle.promises.specs.Refusals.{steps}
-use Rattle.promises.specs.RuleEnds.{park_ends}
+use Rattle.promises.proofs.RuleEnds.{park_ends}
 use Rattle.promises.specs.Shared.{takes_token}
 use Rattle.promises.specs.Statements.{ParkTakesTheToken}
 

@@ -48,13 +48,13 @@ use Rattle.lock.specs.Advance.{advance_of}
 use Rattle.lock.specs.Event.{event_of}
 use Rattle.lock.specs.Laws.{slot_at}
 use Rattle.lock.specs.Step.{marked_of, mark_by, mark_of}
-use Rattle.promises.specs.Afterwards.{fails_17, step_made, by_rule, seen, touched, own_place}
+use Rattle.promises.proofs.Afterwards.{fails_17, step_made, by_rule, seen, touched, own_place}
 use Rattle.promises.specs.Goes.{over_for, tries_on, tried_on, contends_on, contended_on, marked_on, unlocks_on}
 use Rattle.promises.specs.Goes.{unlocked_on}
 use Rattle.promises.specs.Goes.{goes_to}
-use Rattle.promises.specs.Obeys.{All}
+use Rattle.promises.proofs.Obeys.{All}
 use Rattle.promises.specs.Program.{place_of, access_at}
-use Rattle.promises.specs.RuleEnds.{park_ends}
+use Rattle.promises.proofs.RuleEnds.{park_ends}
 use Rattle.promises.specs.Statements.{GoesExactly}
 use Rattle.promises.specs.Tables.{bit, writer_of}
 use Rattle.promises.specs.Values.{value_in, own_token, value_in_lem}

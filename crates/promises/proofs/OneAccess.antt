@@ -26,13 +26,13 @@ use Rattle.lock.specs.Begin.{first_place, placed_of}
 use Rattle.lock.specs.Event.{event_of}
 use Rattle.lock.specs.Stored.{get_set, woken_count, woken_nodes, Woken, as_before, with_token_lem}
 use Rattle.lock.specs.Stored.{woken_thread, woken_place, woken_holding, woken_long}
-use Rattle.promises.specs.Afterwards.{fails_17, step_made, step_not_begin}
-use Rattle.promises.specs.Afterwards.{next, obeyed, laid, landed, next_word, next_node, touched, at_next}
-use Rattle.promises.specs.Afterwards.{begun_is, begun_thread, begun_token, begun_holding}
+use Rattle.promises.proofs.Afterwards.{fails_17, step_made, step_not_begin}
+use Rattle.promises.proofs.Afterwards.{next, obeyed, laid, landed, next_word, next_node, touched, at_next}
+use Rattle.promises.proofs.Afterwards.{begun_is, begun_thread, begun_token, begun_holding}
 use Rattle.promises.specs.Happened.{Begun, Stepping, Happened, begun, stepped, happened}
 use Rattle.promises.specs.Places.{fills_own}
 use Rattle.promises.specs.Program.{place_of, access_at}
-use Rattle.promises.specs.RefusalProofs.{refused_unchanged}
+use Rattle.promises.proofs.RefusalProofs.{refused_unchanged}
 use Rattle.promises.specs.Shared.{Unless, kept_but, kept_by, fills, writes_word, is_weak, takes_token}
 use Rattle.promises.specs.Statements.{NodeAfter, same, accessed, filled, TokenAfter, kept, taken}
 use Rattle.promises.specs.Statements.{set as token_set_lem}

@@ -21,13 +21,13 @@ use Rattle.state.specs.declared.place.Place.{Place}
 use Rattle.lock.specs.Effect.{LockEffect, effect_of, lock_effect, stand_of, keeps, held_after, grants, word_changed}
 use Rattle.lock.specs.Event.{event_of}
 use Rattle.lock.specs.Still.{idle_is, still_lock, still_queue}
-use Rattle.promises.specs.Afterwards.{obeyed, answered, own_holding, effect_is, step_moves}
-use Rattle.promises.specs.Afterwards.{begun_is, begun_holding, begun_effect}
+use Rattle.promises.proofs.Afterwards.{obeyed, answered, own_holding, effect_is, step_moves}
+use Rattle.promises.proofs.Afterwards.{begun_is, begun_holding, begun_effect}
 use Rattle.promises.specs.Happened.{Begun, Stepping, Happened, begun, stepped, happened}
-use Rattle.promises.specs.OneAccess.{unless_map, changes_little}
+use Rattle.promises.proofs.OneAccess.{unless_map, changes_little}
 use Rattle.promises.specs.Places.{effect_kind}
 use Rattle.promises.specs.Program.{place_of}
-use Rattle.promises.specs.RefusalProofs.{refused_unchanged}
+use Rattle.promises.proofs.RefusalProofs.{refused_unchanged}
 use Rattle.promises.specs.Refusals.{and}
 use Rattle.promises.specs.Shared.{Unless, tries, acquires, is_yes, is_done}
 use Rattle.promises.specs.Statements.{HoldingFollowsEffect, RefusedHasNoEffect, AnsweredAtTheGrant}

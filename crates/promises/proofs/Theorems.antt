@@ -2,18 +2,18 @@
 -- page's order. Each is proved in the file that its line names; programs that break a statement are in Wrong.antt.
 -- Assumes nothing.
 use Rattle.lock.specs.Event.{event_of}
-use Rattle.promises.specs.EndsExactly as HowCallsEnd
-use Rattle.promises.specs.FillsExactly as WhatIsFilled
-use Rattle.promises.specs.GoesExactly as WhereItGoes
-use Rattle.promises.specs.Grants
-use Rattle.promises.specs.OneAccess as OneAtATime
-use Rattle.promises.specs.OnlyOne as NoChoice
-use Rattle.promises.specs.ParkToken
+use Rattle.promises.proofs.EndsExactly as HowCallsEnd
+use Rattle.promises.proofs.FillsExactly as WhatIsFilled
+use Rattle.promises.proofs.GoesExactly as WhereItGoes
+use Rattle.promises.proofs.Grants
+use Rattle.promises.proofs.OneAccess as OneAtATime
+use Rattle.promises.proofs.OnlyOne as NoChoice
+use Rattle.promises.proofs.ParkToken
 use Rattle.promises.specs.ReadsOneAccess as WhatIsRead
-use Rattle.promises.specs.RefusalProofs
-use Rattle.promises.specs.SeenIsTheLastWord as TheLastWord
-use Rattle.promises.specs.WokenOwner
-use Rattle.promises.specs.WritesExactly as WhatIsWritten
+use Rattle.promises.proofs.RefusalProofs
+use Rattle.promises.proofs.SeenIsTheLastWord as TheLastWord
+use Rattle.promises.proofs.WokenOwner
+use Rattle.promises.proofs.WritesExactly as WhatIsWritten
 use Rattle.promises.specs.Statements.{RefusalTable, RefusedUnchanged, EndsExactly, ReadsOneAccess, WritesExactly}
 use Rattle.promises.specs.Statements.{GoesExactly, FillsExactly, SeenIsTheLastWord, ParkTakesTheToken}
 use Rattle.promises.specs.Statements.{WokenIsTheOwner, OneAccess, BeginSharesNothing, FailureWritesNothing}

@@ -42,7 +42,7 @@ use Rattle.lock.specs.Advance.{advance_of}
 use Rattle.lock.specs.Effect.{LockEffect, keeps, grants_read, grants_write, lock_effect, stand_of}
 use Rattle.promises.specs.Refusals.{and}
 use Rattle.promises.specs.Shared.{lock_done}
-use Rattle.promises.specs.Obeys.{All, agrees_word}
+use Rattle.promises.proofs.Obeys.{All, agrees_word}
 use Rattle.promises.specs.Tables.{subtracting, contended, asserted}
 
 -- the lock is kept, or the word changed, or it is the subtraction

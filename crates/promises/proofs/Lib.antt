@@ -1,0 +1,17 @@
+pub mod RefusalSteps
+pub mod RefusalProofs
+pub mod Obeys
+pub mod Changes
+pub mod RuleEnds
+pub mod Afterwards
+pub mod OneAccess
+pub mod Grants
+pub mod EndsExactly
+pub mod WritesExactly
+pub mod GoesExactly
+pub mod FillsExactly
+pub mod SeenIsTheLastWord
+pub mod ParkToken
+pub mod WokenOwner
+pub mod OnlyOne
+pub mod Theorems
