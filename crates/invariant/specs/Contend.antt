@@ -31,7 +31,7 @@ use Rattle.queue.specs.Updates.{upd, upd_same, upd_other, map_upd}
 use Rattle.queue.specs.Tickets.{waiting_apart}
 use Rattle.queue.specs.Roles.{none, ready}
 use Rattle.queue.specs.Invariant as Q
-use Rattle.queue.specs.Registering
+use Rattle.queue.proofs.Registering
 use Rattle.invariant.specs.Table.{off_queue, free, about, about_at, links_of, wait_of, role_of, Free, leaver}
 use Rattle.invariant.specs.Invariant.{readers, writers, leavers, Unqueued, empty, written, read, Real, Newest}
 use Rattle.invariant.specs.Invariant.{queue_of, Inv}

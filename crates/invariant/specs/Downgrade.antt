@@ -23,7 +23,7 @@ use Rattle.queue.specs.Sums.{sum_le, sum_two}
 use Rattle.queue.specs.Tickets.{took}
 use Rattle.queue.specs.Roles.{on_queue}
 use Rattle.queue.specs.Invariant as Q
-use Rattle.queue.specs.Taking
+use Rattle.queue.proofs.Taking
 use Rattle.invariant.specs.Table.{off_queue, writes, about, about_at, role_of, Writes, leaver}
 use Rattle.invariant.specs.Invariant.{writers, leavers, read, Newest, queue_of, Inv, HoldersAre}
 use Rattle.invariant.specs.TableFacts.{row_facts}

@@ -14,6 +14,7 @@ use Rattle.queue.specs.Tests.{never}
 use Rattle.queue.specs.Tickets.{Ghost}
 use Rattle.queue.specs.Roles.{none, filled}
 use Rattle.queue.specs.Invariant as Q
+use Rattle.queue.proofs.Steps as QueueSteps
 use Rattle.invariant.specs.Table.{May, About, off_queue, about, Lock, about_at, Allowed, leaver}
 use Rattle.invariant.specs.Invariant.{readers, Count, Real, queue_of, Inv}
 use Rattle.invariant.specs.Frames.{summed, land, stay, viewed_still, same_newest, Recount}
@@ -42,7 +43,7 @@ pub role_down : {n : ℕ} {s : Lock} {g : Ghost} (i : Inv n s g) (t : ℕ) → O
 role_down {s} {g} i t o = record {
   owner = o.owner;
   registered = o.registered;
-  role = Q.turn g (queue_of s) i.queue t none (rw o.role at (i.queue.know t)) (never refl);
+  role = QueueSteps.turn g (queue_of s) i.queue t none (rw o.role at (i.queue.know t)) (never refl);
 }
 
 module _ (st : Setting) (o : RoleDown st.s st.g st.me.0) where

@@ -19,7 +19,7 @@ use Rattle.queue.specs.Tickets.{Ghost}
 use Rattle.queue.specs.Queue.{Links, set_pv, set_tl}
 use Rattle.queue.specs.Roles.{Role, filled, WalkKind, public, none, walk}
 use Rattle.queue.specs.Invariant as Q
-use Rattle.queue.specs.Walking
+use Rattle.queue.proofs.Walking
 use Rattle.invariant.specs.Table.{hands_off, About, walking, owning, waking, about, Lock, links_of, wait_of, Allowed}
 use Rattle.invariant.specs.Table.{look_kind, role_of}
 use Rattle.invariant.specs.Invariant.{Real, queue_of, Inv, Newest}

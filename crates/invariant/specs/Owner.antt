@@ -19,6 +19,7 @@ use Rattle.unlock.specs.UnlockQueue.{queue_cas_of}
 use Rattle.queue.specs.Tests.{never, not_false}
 use Rattle.queue.specs.Roles.{Role, none, walk}
 use Rattle.queue.specs.Invariant as Q
+use Rattle.queue.proofs.Steps as QueueSteps
 use Rattle.invariant.specs.Table.{hands_off, look_kind, waiter, owning, about, about_at, leaver}
 use Rattle.invariant.specs.Invariant.{readers, writers, leavers, Count, Real, wakes, Newest, queue_of, Inv}
 use Rattle.invariant.specs.Exclusion.{owned, real_hands_off}
@@ -127,7 +128,7 @@ module _ (st : Setting) (who : Who) (seen : Word) where
 
   -- the owner puts its role down where it was none
   put_down : (about_at s me.0).role ≡ none → Q.Inv g (Q.turned (queue_of s) me.0 none)
-  put_down e = Q.turn g (queue_of s) i.queue me.0 none (rw e at (i.queue.know me.0)) (never refl)
+  put_down e = QueueSteps.turn g (queue_of s) i.queue me.0 none (rw e at (i.queue.know me.0)) (never refl)
 
   -- what QueueCas has seen
   held_off : hands_off seen ≡ true → (locked seen ≡ true) × (downgraded seen ≡ false)

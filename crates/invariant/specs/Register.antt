@@ -21,7 +21,7 @@ use Rattle.queue.specs.Updates.{upd, upd_same, upd_other}
 use Rattle.queue.specs.Tickets.{registered, taken_by}
 use Rattle.queue.specs.Roles.{none, ready, walk, filled, ReadyAt}
 use Rattle.queue.specs.Invariant as Q
-use Rattle.queue.specs.Registering
+use Rattle.queue.proofs.Registering
 use Rattle.invariant.specs.Table.{hands_off, look_kind, About, filling, about, about_at, links_of, wait_of, role_of}
 use Rattle.invariant.specs.Table.{Free, Allowed, weight, leaver}
 use Rattle.invariant.specs.Invariant.{readers, writers, leavers, Unqueued, empty, written, read, Locked}

@@ -26,8 +26,9 @@ use Rattle.queue.specs.Tickets.{asided, restored, tickets_of, taken_by}
 use Rattle.queue.specs.Queue.{set_tl}
 use Rattle.queue.specs.Roles.{Role, walk, head, split, aside, undo, filled, changes, SplitAt, AsideAt, UndoAt}
 use Rattle.queue.specs.Invariant as Q
-use Rattle.queue.specs.Walking
-use Rattle.queue.specs.Taking
+use Rattle.queue.proofs.Steps as QueueSteps
+use Rattle.queue.proofs.Walking
+use Rattle.queue.proofs.Taking
 use Rattle.invariant.specs.Table.{hands_off, unheld, look_kind, may_wake, owning, about, about_at, links_of, role_of}
 use Rattle.invariant.specs.Table.{Free, Allowed, same_role}
 use Rattle.invariant.specs.Invariant.{Real, Newest, queue_of, Inv}
@@ -68,7 +69,7 @@ module _ (st : Setting) (who : Who) (seen : Word) (tail : NodeNumber) where
       (λ e. kept_stood st tail.0 here refl _ _ refl
       (on_to _ (head changes (to_node seen).0 tail.0) _ (not (hands_off seen)) is (TakeCas who seen tail) refl refl
       (rw flags.0)
-      (Q.turn g (queue_of s) i.queue me.0 (head changes (to_node seen).0 tail.0)
+      (QueueSteps.turn g (queue_of s) i.queue me.0 (head changes (to_node seen).0 tail.0)
       (rw is at (i.queue.know me.0)) (never refl))))
       (λ e. kept_stood st tail.0 here refl _ _ refl
       (on_to _ (split (to_node seen).0 tail.0 (s.nd tail.0).prev.0) _ (unheld seen) is

@@ -22,7 +22,7 @@ use Rattle.queue.specs.Updates.{upd, upd_same, upd_cases, map_upd, map_keep}
 use Rattle.queue.specs.Tickets.{tickets_of, taken_by}
 use Rattle.queue.specs.Queue.{set_nx}
 use Rattle.queue.specs.Roles.{head, filled, looks, HeadAt}
-use Rattle.queue.specs.Walking
+use Rattle.queue.proofs.Walking
 use Rattle.invariant.specs.Table.{walking, about, about_at, links_of, wait_of, Reads, Allowed, leaver}
 use Rattle.invariant.specs.Invariant.{readers, writers, leavers, Locked, by_writer, by_readers, by_leaver, Real}
 use Rattle.invariant.specs.Invariant.{Inv, CountedAs}

@@ -19,8 +19,8 @@ use Rattle.queue.specs.Tickets.{took, tickets_of, taken_by as taken}
 use Rattle.queue.specs.Queue.{Full}
 use Rattle.queue.specs.Roles.{head, filled, changes, HeadAt}
 use Rattle.queue.specs.Invariant as Q
-use Rattle.queue.specs.Walking
-use Rattle.queue.specs.Taking
+use Rattle.queue.proofs.Walking
+use Rattle.queue.proofs.Taking
 use Rattle.invariant.specs.Table.{hands_off, writes, owning, about, about_at, links_of, Allowed, weight, same_role}
 use Rattle.invariant.specs.Invariant.{readers, writers, leavers, Unqueued, empty, read, Newest, queue_of, Inv}
 use Rattle.invariant.specs.Invariant.{HoldersAre}

@@ -10,6 +10,7 @@ use Rattle.acquire.specs.Wait.{completed_load_of, park_of}
 use Rattle.queue.specs.Tests.{never}
 use Rattle.queue.specs.Roles.{none}
 use Rattle.queue.specs.Invariant as Q
+use Rattle.queue.proofs.Steps as QueueSteps
 use Rattle.invariant.specs.Table.{waiting, about, about_at, links_of, wait_of, Free}
 use Rattle.invariant.specs.Invariant.{queue_of, Inv}
 use Rattle.invariant.specs.Frames.{waits_as, stay, viewed, viewed_still}
@@ -24,7 +25,7 @@ module _ (st : Setting) where
 
     -- its role is none, before and after
     down : Q.Inv g (Q.turned (queue_of s) me.0 none)
-    down = Q.turn g (queue_of s) i.queue me.0 none (rw told at (i.queue.know me.0)) (never refl)
+    down = QueueSteps.turn g (queue_of s) i.queue me.0 none (rw told at (i.queue.know me.0)) (never refl)
 
     abbrev waits_at : Place → Bool → Thread
     waits_at q token = record { place = q; token = token; holding = (mine st).holding }

@@ -27,7 +27,7 @@ use Rattle.queue.specs.Tickets.{Ghost, completed, rest_span, taken_by}
 use Rattle.queue.specs.Roles.{none, wake, store, filled, StoreAt}
 use Rattle.queue.specs.Reads.{EachNode, NodeWaits, named_wait}
 use Rattle.queue.specs.Invariant as Q
-use Rattle.queue.specs.Taking
+use Rattle.queue.proofs.Taking
 use Rattle.invariant.specs.Table.{waiter, waking, about, Lock, about_at, links_of, wait_of, role_of, Allowed}
 use Rattle.invariant.specs.Table.{same_role}
 use Rattle.invariant.specs.Invariant.{Responsible, contends, called, wakes, Newest, queue_of, Inv}

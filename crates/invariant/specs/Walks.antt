@@ -26,7 +26,7 @@ use Rattle.queue.specs.Updates.{upd, upd_same}
 use Rattle.queue.specs.Queue.{set_tl, Links}
 use Rattle.queue.specs.Roles.{Role, none, head, on_queue, filled, looks, changes, alone}
 use Rattle.queue.specs.Invariant as Q
-use Rattle.queue.specs.Walking
+use Rattle.queue.proofs.Walking
 use Rattle.invariant.specs.Table.{hands_off, unheld, look_kind, walking, owning, about, about_at, links_of, role_of}
 use Rattle.invariant.specs.Table.{same_role}
 use Rattle.invariant.specs.Invariant.{Real, queue_of, Inv}

@@ -5,7 +5,4 @@ pub mod Queue
 pub mod Tickets
 pub mod Roles
 pub mod Invariant
-pub mod Walking
-pub mod Registering
-pub mod Taking
 pub mod Reads

@@ -8,8 +8,9 @@ use Rattle.queue.specs.Queue.{Links, link_in, Clean, Queue, Agree, relog}
 use Rattle.queue.specs.Queue
 use Rattle.queue.specs.Tickets.{Ghost, tickets_of, taken_by, registered, log_below, waiting_apart, parts_register}
 use Rattle.queue.specs.Roles.{none, ready, ReadyAt}
-use Rattle.queue.specs.Invariant.{St, Inv, moved, Only, fill_links, only_fill, step, turn, role_knows, agree_apart}
-use Rattle.queue.specs.Invariant.{still_apart, clean_apart, turned, relinked}
+use Rattle.queue.specs.Invariant.{St, Inv, moved, Only, fill_links, only_fill}
+use Rattle.queue.specs.Invariant.{turned, relinked}
+use Rattle.queue.proofs.Steps.{step, turn, role_knows, agree_apart, still_apart, clean_apart}
 use Rattle.queue.specs.Tests.{never}
 
 module _ {g : Ghost} {s : St} (v : Inv g s) (t : ℕ) where

@@ -11,9 +11,10 @@ use Rattle.queue.specs.Queue
 use Rattle.queue.specs.Tickets.{Ghost, tickets_of, taken_by, Held, live_taken}
 use Rattle.queue.specs.Roles.{WalkKind, looks, changes, alone, Role, none, walk, past, link, head, wake, public}
 use Rattle.queue.specs.Roles.{filled, Ground, Over, WalkAt, PastAt, LinkAt, HeadAt, Know}
-use Rattle.queue.specs.Invariant.{St, Inv, Quiet, Only, only_nx, only_pv, only_tl, step, turn, role_knows, live}
-use Rattle.queue.specs.Invariant.{live_on, queue_on, queue_apart, spared_queue, spared_own, turned, relinked}
+use Rattle.queue.specs.Invariant.{St, Inv, Quiet, Only, only_nx, only_pv, only_tl}
+use Rattle.queue.specs.Invariant.{turned, relinked}
 use Rattle.queue.specs.Invariant.{walked_by}
+use Rattle.queue.proofs.Steps.{step, turn, role_knows, live, live_on, queue_on, queue_apart, spared_queue, spared_own}
 
 module _ {g : Ghost} {s : St} (v : Inv g s) (t : ℕ) where
   pub begin : (k : WalkKind) → public k ≡ true → (hd p : ℕ) → s.role t ≡ none → suc p ≡ g.hi → g.lo ≤ p

@@ -11,9 +11,11 @@ use Rattle.queue.specs.Tickets.{Ghost, tickets_of, span_interval, taken_by, Held
 use Rattle.queue.specs.Tickets.{empty_span, took, whole_span, completed, rest_span, parts_aside, parts_restore}
 use Rattle.queue.specs.Tickets.{parts_take, parts_complete}
 use Rattle.queue.specs.Roles.{changes, alone, Role, none, walk, head, split, aside, undo, wake, store, filled}
-use Rattle.queue.specs.Roles.{WalkAt, HeadAt, SplitAt, AsideAt, UndoAt, WakeAt, StoreAt, Know, agree_still}
-use Rattle.queue.specs.Invariant.{St, Inv, moved, Lonely, only_tl, Spared, step, turn, role_knows, live}
-use Rattle.queue.specs.Invariant.{agree_refl, spared_queue, turned, relinked, lonely_quiet}
+use Rattle.queue.specs.Roles.{WalkAt, HeadAt, SplitAt, AsideAt, UndoAt, WakeAt, StoreAt, Know}
+use Rattle.queue.proofs.Frames.{agree_still}
+use Rattle.queue.specs.Invariant.{St, Inv, moved, Lonely, only_tl, Spared}
+use Rattle.queue.specs.Invariant.{turned, relinked, lonely_quiet}
+use Rattle.queue.proofs.Steps.{step, turn, role_knows, live, agree_refl, spared_queue}
 
 module _ {g : Ghost} {s : St} (v : Inv g s) (t : ℕ) where
   -- ── set aside, commit, restore ──

@@ -1,0 +1,5 @@
+pub mod Frames
+pub mod Steps
+pub mod Walking
+pub mod Registering
+pub mod Taking
