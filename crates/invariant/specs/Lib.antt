@@ -1,4 +1,5 @@
--- The files in the order in which they follow, and the words that the lemmas use; each is explained here only.
+-- The files in the order in which they follow, those of proofs/ after these, and the words that the lemmas use; each is
+-- explained here only.
 --     row           what the table tells of a place: `About`, in Table.antt
 --     role          what a thread knows of the queue by its place; crate queue's Roles.antt says what each role knows
 --     Q             crate queue's Invariant.antt: Q.Inv and Q.moved are the queue's, Inv and moved the lock's
@@ -18,31 +19,10 @@
 pub mod Table
 pub mod Invariant
 pub mod TableFacts
-pub mod Exclusion
 pub mod Frames
 pub mod Moves
 pub mod Kept
-pub mod OffQueue
 pub mod Words
-pub mod CallEnds
-pub mod FirstTry
-pub mod Contend
-pub mod Register
-pub mod Wait
-pub mod OnQueue
-pub mod Walks
-pub mod Owner
-pub mod Split
-pub mod Take
 pub mod Tokens
-pub mod Wake
-pub mod ReadUnlock
-pub mod Subtract
-pub mod OneHolder
-pub mod Release
-pub mod Downgrade
 pub mod Fresh
-pub mod Steps
 pub mod Bridge
-pub mod Begins
-pub mod Events

@@ -33,9 +33,9 @@ use Rattle.promises.proofs.Theorems.{refusal_changes_nothing, refused_has_no_eff
 use Rattle.queue.specs.Tests.{not_true, not_false}
 use Rattle.invariant.specs.Table.{about}
 use Rattle.invariant.specs.Invariant.{writers, leavers}
-use Rattle.invariant.specs.Exclusion.{nobody_needs}
+use Rattle.invariant.proofs.Exclusion.{nobody_needs}
 use Rattle.invariant.specs.Bridge.{lock_of}
-use Rattle.invariant.specs.Events.{Ok}
+use Rattle.invariant.proofs.Events.{Ok}
 use Rattle.safety.specs.Statements.{Event, effect_in, WithTheWord}
 
 -- ── the rules of the two compares ──

@@ -23,7 +23,7 @@ use Rattle.queue.specs.Sums.{sum, sum_upd}
 use Rattle.queue.specs.Tickets.{Ghost}
 use Rattle.invariant.specs.Invariant.{readers, writers, leavers, Unqueued, empty, written, read, Newest, Inv}
 use Rattle.invariant.specs.Bridge.{lock_of}
-use Rattle.invariant.specs.Events.{Ok, event_safe}
+use Rattle.invariant.proofs.Events.{Ok, event_safe}
 use Rattle.safety.specs.Held.{listing_is}
 use Rattle.safety.specs.Intervals.{down, node_by_lem}
 use Rattle.safety.specs.Members.{oldest_down}

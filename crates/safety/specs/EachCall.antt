@@ -34,7 +34,7 @@ use Rattle.promises.specs.Happened.{Begun as BegunCall, Stepping, Happened, begu
 use Rattle.promises.proofs.EndsExactly.{call_place}
 use Rattle.promises.proofs.Afterwards.{begin_code, seen, by_rule, answered, own_place, own_holding, effect_is}
 use Rattle.promises.proofs.Theorems.{ends_exactly, changes_little, refusal_changes_nothing}
-use Rattle.invariant.specs.Events.{Ok, event_safe}
+use Rattle.invariant.proofs.Events.{Ok, event_safe}
 use Rattle.safety.specs.Statements.{Event, after, effect_in, ran_by, ran, reached}
 use Rattle.safety.specs.Calls.{Now, resting, inside, Log, nothing_yet, also, noted, logged, log_of}
 use Rattle.safety.specs.Calls.{Each, Inside, WorkDone, EachCallDoesItsWork}

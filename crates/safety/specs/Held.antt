@@ -21,10 +21,10 @@ use Rattle.queue.specs.Tickets.{Ghost, Held, tickets_of as tickets_of, taken_by,
 use Rattle.queue.specs.Roles.{Know, Ground, AsideAt, WakeAt, StoreAt}
 use Rattle.invariant.specs.Table.{hands_off, look_kind, about, links_of, wait_of}
 use Rattle.invariant.specs.Invariant.{Newest}
-use Rattle.invariant.specs.Exclusion.{inside}
-use Rattle.invariant.specs.Wake.{Waiter-of, waiter_of_lem}
+use Rattle.invariant.proofs.Exclusion.{inside}
+use Rattle.invariant.proofs.Wake.{Waiter-of, waiter_of_lem}
 use Rattle.invariant.specs.Bridge.{node_in, lock_of}
-use Rattle.invariant.specs.Events.{Ok}
+use Rattle.invariant.proofs.Events.{Ok}
 use Rattle.safety.specs.Lists.{turned, queue_in, back_from, held_by}
 use Rattle.safety.specs.Intervals.{up, down, length_up, reverse_down, node_is, lists_all, few_tickets}
 use Rattle.safety.specs.Intervals.{Begins, goes_back}

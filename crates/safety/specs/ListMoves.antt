@@ -19,7 +19,7 @@ use Rattle.queue.specs.Tickets.{Ghost, Span, Parts, oldest_span, empty_span, who
 use Rattle.invariant.specs.Table.{wait_of}
 use Rattle.invariant.specs.Moves.{Moved, AsideAfter}
 use Rattle.invariant.specs.Bridge.{node_in}
-use Rattle.invariant.specs.Events.{Ok, Safe, event_safe}
+use Rattle.invariant.proofs.Events.{Ok, Safe, event_safe}
 use Rattle.safety.specs.Lists.{aside_of}
 use Rattle.safety.specs.Parts.{same_part}
 use Rattle.safety.specs.Intervals.{up, up_more, up_same, node_is}

@@ -17,8 +17,8 @@ use Rattle.queue.specs.Sums.{sum_some}
 use Rattle.queue.specs.Tests.{never}
 use Rattle.queue.specs.Updates.{eq?}
 use Rattle.invariant.specs.Table.{about, weight}
-use Rattle.invariant.specs.Exclusion.{inside, one_owner, unowned}
-use Rattle.invariant.specs.Events.{Ok}
+use Rattle.invariant.proofs.Exclusion.{inside, one_owner, unowned}
+use Rattle.invariant.proofs.Events.{Ok}
 use Rattle.safety.specs.Lists.{aside_by}
 use Rattle.safety.specs.Parts.{same_part}
 use Rattle.safety.specs.Statements.{In, OwnsQueue, OneOwner, Owned}

@@ -29,7 +29,7 @@ use Rattle.invariant.specs.Table.{about, Lock, Free, Allowed}
 use Rattle.invariant.specs.Invariant.{readers, writers, leavers, Unqueued, empty, written}
 use Rattle.invariant.specs.Invariant.{read, Locked, by_writer, by_readers, by_leaver, Inv}
 use Rattle.invariant.specs.Bridge.{lock_of}
-use Rattle.invariant.specs.Events.{Ok, event_safe}
+use Rattle.invariant.proofs.Events.{Ok, event_safe}
 use Rattle.safety.specs.Statements.{Event, after, effect_in, ran_by, ran, holders_of, Allows, Plainly}
 use Rattle.safety.specs.Statements.{Whose, nobodys, readers as readers_hold, writers as writers_hold}
 

@@ -11,7 +11,7 @@ use Rattle.listing.specs.Listing.{listed, waiters_by}
 use Rattle.queue.specs.Updates.{upd, upd_same, upd_other}
 use Rattle.queue.specs.Tickets.{Ghost, live_queue}
 use Rattle.invariant.specs.Moves.{Moved}
-use Rattle.invariant.specs.Events.{Ok, event_safe}
+use Rattle.invariant.proofs.Events.{Ok, event_safe}
 use Rattle.safety.specs.Intervals.{down, down_same, node_is}
 use Rattle.safety.specs.Held.{listing_is}
 use Rattle.safety.specs.Members.{no_repeats, take_down}

@@ -22,7 +22,7 @@ use Rattle.schedule.specs.declared.file.FileRefusal.TheVariants.{TooShort, Versi
 use Rattle.schedule.specs.declared.replay.Replayed.{Replayed as Replay}
 use Rattle.schedule.specs.declared.replay.Stop.{Stop}
 use Rattle.schedule.specs.declared.replay.Stop.TheVariants.{Ran, Refused as Stopped}
-use Rattle.invariant.specs.Events.{Ok, event_safe}
+use Rattle.invariant.proofs.Events.{Ok, event_safe}
 use Rattle.safety.specs.Statements.{Event, ran_by, ran, reached, NeverStopsAtEight, Replayed, ReplayedSafe}
 use Rattle.safety.specs.Runs.{start, reached_ok, event_not_eight}
 

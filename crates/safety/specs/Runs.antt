@@ -23,7 +23,7 @@ use Rattle.queue.specs.Invariant as Q
 use Rattle.invariant.specs.Invariant.{Inv}
 use Rattle.invariant.specs.Fresh.{fresh_lock, inv_fresh}
 use Rattle.invariant.specs.Bridge.{lock_of, lock_fresh}
-use Rattle.invariant.specs.Events.{Ok, event_safe}
+use Rattle.invariant.proofs.Events.{Ok, event_safe}
 use Rattle.safety.specs.Statements.{Event, after, ran_by, ran, reached}
 
 -- a machine to start from: nobody waits and nothing is held

@@ -14,10 +14,10 @@ use Rattle.standing.specs.declared.part.Part.{Part}
 use Rattle.queue.specs.Tests.{never}
 use Rattle.queue.specs.Tickets.{Ghost, Held, Somewhere}
 use Rattle.invariant.specs.Table.{wait_of}
-use Rattle.invariant.specs.Exclusion.{inside}
-use Rattle.invariant.specs.Wake.{Waiter-of, waiter_of_lem}
+use Rattle.invariant.proofs.Exclusion.{inside}
+use Rattle.invariant.proofs.Wake.{Waiter-of, waiter_of_lem}
 use Rattle.invariant.specs.Bridge.{node_in, lock_of}
-use Rattle.invariant.specs.Events.{Ok}
+use Rattle.invariant.proofs.Events.{Ok}
 use Rattle.safety.specs.Lists.{held_by, aside_of}
 use Rattle.safety.specs.Intervals.{node_is}
 use Rattle.safety.specs.Held.{listing_is, held_is}

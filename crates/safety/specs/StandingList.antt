@@ -29,7 +29,7 @@ use Rattle.standing.specs.declared.stands.Standing.TheVariants.{NotWaiting, Comp
 use Rattle.standing.specs.declared.stands.Standing.TheVariants.{Nowhere}
 use Rattle.queue.specs.Tests.{never}
 use Rattle.queue.specs.Updates.{eq?}
-use Rattle.invariant.specs.Events.{Ok}
+use Rattle.invariant.proofs.Events.{Ok}
 use Rattle.safety.specs.Lists.{aside_in, wakes_in}
 use Rattle.safety.specs.ListTests.{Tests, among_listed, told}
 use Rattle.safety.specs.Held.{listing_is, held_is, held_few}

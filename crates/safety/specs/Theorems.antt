@@ -13,10 +13,10 @@ use Rattle.schedule.specs.Replay.{replay_of}
 use Rattle.schedule.specs.Whole.{file_replay_of}
 use Rattle.queue.specs.Sums.{sum_zero}
 use Rattle.invariant.specs.Invariant.{readers}
-use Rattle.invariant.specs.Wake.{waiter_of_lem}
-use Rattle.invariant.specs.Steps.{WaitingNode, touches, marks}
+use Rattle.invariant.proofs.Wake.{waiter_of_lem}
+use Rattle.invariant.proofs.Steps.{WaitingNode, touches, marks}
 use Rattle.invariant.specs.Bridge.{lock_of}
-use Rattle.invariant.specs.Events.{Ok}
+use Rattle.invariant.proofs.Events.{Ok}
 use Rattle.safety.specs.Statements.{reached, CountStays, holders_of, Plainly, PlainLock, MutualExclusion}
 use Rattle.safety.specs.Statements.{ChangesWithTheWord, ReaderCount, registrations, ListingTotal, ListsMove}
 use Rattle.safety.specs.Statements.{Waits, OnePlace, StandingIsItsList, OneQueueOwner, NobodyStuck, NeverEight}

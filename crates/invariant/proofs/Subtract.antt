@@ -26,11 +26,11 @@ use Rattle.queue.proofs.Walking
 use Rattle.invariant.specs.Table.{walking, about, about_at, links_of, wait_of, Reads, Allowed, leaver}
 use Rattle.invariant.specs.Invariant.{readers, writers, leavers, Locked, by_writer, by_readers, by_leaver, Real}
 use Rattle.invariant.specs.Invariant.{Inv, CountedAs}
-use Rattle.invariant.specs.Exclusion.{real, quiet_reader}
+use Rattle.invariant.proofs.Exclusion.{real, quiet_reader}
 use Rattle.invariant.specs.Frames.{moved, waits_as, summed, land, viewed}
 use Rattle.invariant.specs.Moves.{stood}
 use Rattle.invariant.specs.Kept.{look_at, Kept, Goes, Setting, mine, became}
-use Rattle.invariant.specs.OffQueue.{OffQueue, off_queue_lem}
+use Rattle.invariant.proofs.OffQueue.{OffQueue, off_queue_lem}
 
 links_next : (nd : ℕ → Node) (k : ℕ) (m : Word) → links_of (upd nd k (with_next (nd k) m)) ≡ set_nx (links_of nd) k m.0
 links_next nd k m = λ i. record {

@@ -27,13 +27,13 @@ use Rattle.invariant.specs.Table.{Free, Allowed, weight, leaver}
 use Rattle.invariant.specs.Invariant.{readers, writers, leavers, Unqueued, empty, written, read, Locked}
 use Rattle.invariant.specs.Invariant.{by_writer, by_readers, Count, Real, Newest, queue_of, Inv, CountedAs}
 use Rattle.invariant.specs.Invariant.{HoldersAre}
-use Rattle.invariant.specs.Exclusion.{unowned}
+use Rattle.invariant.proofs.Exclusion.{unowned}
 use Rattle.invariant.specs.Frames.{moved, waits_as, view, summed, land}
 use Rattle.invariant.specs.Moves.{registers_waits, registers_walks, unregistered}
 use Rattle.invariant.specs.Kept.{look_at, Kept, kept_still, placed, Goes, Setting, mine, moved_to, kept_compare}
-use Rattle.invariant.specs.Contend.{Contends, kept_contend}
+use Rattle.invariant.proofs.Contend.{Contends, kept_contend}
 use Rattle.invariant.specs.Words.{word_is}
-use Rattle.invariant.specs.OnQueue.{public_look, begun_at}
+use Rattle.invariant.proofs.OnQueue.{public_look, begun_at}
 
 -- where a registered thread goes on
 pub record Joins (a : About) : Type 0 where

@@ -31,11 +31,11 @@ use Rattle.invariant.specs.Table.{hands_off, unheld, look_kind, walking, owning,
 use Rattle.invariant.specs.Table.{same_role}
 use Rattle.invariant.specs.Invariant.{Real, queue_of, Inv}
 use Rattle.invariant.specs.TableFacts.{row_facts}
-use Rattle.invariant.specs.Exclusion.{on_queue_lem, quiet_owner, quiet_reader}
+use Rattle.invariant.proofs.Exclusion.{on_queue_lem, quiet_owner, quiet_reader}
 use Rattle.invariant.specs.Moves.{stood}
 use Rattle.invariant.specs.Kept.{look_at, Kept, Goes, Setting, mine, gone_to, kept_stood}
-use Rattle.invariant.specs.OnQueue.{Alike, alike_walk, alike_own, unlinked, linked_tail, linked_prev}
-use Rattle.invariant.specs.OnQueue.{goes_on_queue, Linked}
+use Rattle.invariant.proofs.OnQueue.{Alike, alike_walk, alike_own, unlinked, linked_tail, linked_prev}
+use Rattle.invariant.proofs.OnQueue.{goes_on_queue, Linked}
 
 module _ (st : Setting) where
   open st use {n, s, g, i, me}

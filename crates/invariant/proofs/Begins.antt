@@ -14,7 +14,7 @@ use Rattle.invariant.specs.Table.{any, off_queue, about, Free, Reads, Writes, Al
 use Rattle.invariant.specs.Invariant.{Inv}
 use Rattle.invariant.specs.Moves.{is_aside}
 use Rattle.invariant.specs.Kept.{Setting, mine, gone_to}
-use Rattle.invariant.specs.OffQueue.{OffQueue, off_queue_lem, role_down, goes_off_queue}
+use Rattle.invariant.proofs.OffQueue.{OffQueue, off_queue_lem, role_down, goes_off_queue}
 
 -- ── what a call asks for, its first place allows ──
 

@@ -16,7 +16,7 @@ use Rattle.queue.specs.Tests.{never, not_true}
 use Rattle.invariant.specs.Table.{Free, leaver}
 use Rattle.invariant.specs.Invariant.{readers, writers, leavers, Hold, Unqueued, empty, written, read, by_writer}
 use Rattle.invariant.specs.Invariant.{CountedAs, HoldersAre}
-use Rattle.invariant.specs.OffQueue.{RoleDown, Ended}
+use Rattle.invariant.proofs.OffQueue.{RoleDown, Ended}
 use Rattle.invariant.specs.Words.{Plain, word_is, readers_word, granted_word, counts_bare}
 use Rattle.invariant.specs.Kept.{Setting, mine, became}
 use Rattle.invariant.specs.Frames.{Recount}

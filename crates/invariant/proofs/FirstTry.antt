@@ -20,8 +20,8 @@ use Rattle.invariant.specs.Invariant.{Inv}
 use Rattle.invariant.specs.Moves.{moves_no_ticket}
 use Rattle.invariant.specs.Kept.{look_at, Kept, Goes, Setting, mine, gone_to, kept_stood, moved_to, became}
 use Rattle.invariant.specs.Kept.{kept_compare}
-use Rattle.invariant.specs.OffQueue.{OffQueue, off_queue_lem, RoleDown, role_down, goes_off_queue, ends_call}
-use Rattle.invariant.specs.CallEnds.{ended_read, ended_written}
+use Rattle.invariant.proofs.OffQueue.{OffQueue, off_queue_lem, RoleDown, role_down, goes_off_queue, ends_call}
+use Rattle.invariant.proofs.CallEnds.{ended_read, ended_written}
 
 module _ (st : Setting) (k : ℕ) where
   open st use {n, s, g, i, me, tin}

@@ -25,10 +25,10 @@ use Rattle.invariant.specs.Invariant.{CountedAs, HoldersAre}
 use Rattle.invariant.specs.Frames.{stay, viewed_still}
 use Rattle.invariant.specs.Moves.{moves_no_ticket}
 use Rattle.invariant.specs.Kept.{look_at, Kept, placed, Goes, Setting, mine, gone_to, kept_stood, kept_compare}
-use Rattle.invariant.specs.OffQueue.{off_queue_lem, RoleDown, role_down, goes_off_queue, Ended, ends_call}
-use Rattle.invariant.specs.CallEnds.{ended_bare}
+use Rattle.invariant.proofs.OffQueue.{off_queue_lem, RoleDown, role_down, goes_off_queue, Ended, ends_call}
+use Rattle.invariant.proofs.CallEnds.{ended_bare}
 use Rattle.invariant.specs.Words.{Plain, word_is, readers_word, fewer_word, plain_free}
-use Rattle.invariant.specs.OnQueue.{begun_at}
+use Rattle.invariant.proofs.OnQueue.{begun_at}
 
 module _ (st : Setting) (k : ℕ) {p : Place} (here : (mine st).place ≡ p)
     (told : about p ≡ off_queue reads false false false) (unmoved : moves_no_ticket p ≡ true) where

@@ -32,13 +32,13 @@ use Rattle.queue.proofs.Taking
 use Rattle.invariant.specs.Table.{hands_off, unheld, look_kind, may_wake, owning, about, about_at, links_of, role_of}
 use Rattle.invariant.specs.Table.{Free, Allowed, same_role}
 use Rattle.invariant.specs.Invariant.{Real, Newest, queue_of, Inv}
-use Rattle.invariant.specs.Exclusion.{owned, is_queued, lonely}
+use Rattle.invariant.proofs.Exclusion.{owned, is_queued, lonely}
 use Rattle.invariant.specs.Frames.{glide}
 use Rattle.invariant.specs.Moves.{sets_aside_lem, takes_tail_lem, split_fails, restores_tail}
 use Rattle.invariant.specs.Kept.{Kept, kept_still, placed, Goes, Setting, mine, gone_to, kept_stood, moved_to}
 use Rattle.invariant.specs.Kept.{kept_compare}
-use Rattle.invariant.specs.OnQueue.{Alike, alike_own, Linked, unlinked, linked_tail, seen_as, goes_on_queue}
-use Rattle.invariant.specs.Owner.{unown}
+use Rattle.invariant.proofs.OnQueue.{Alike, alike_own, Linked, unlinked, linked_tail, seen_as, goes_on_queue}
+use Rattle.invariant.proofs.Owner.{unown}
 use Rattle.invariant.specs.TableFacts.{owns_nothing_waking}
 
 -- who holds nothing may wake

@@ -31,11 +31,11 @@ use Rattle.queue.proofs.Taking
 use Rattle.invariant.specs.Table.{waiter, waking, about, Lock, about_at, links_of, wait_of, role_of, Allowed}
 use Rattle.invariant.specs.Table.{same_role}
 use Rattle.invariant.specs.Invariant.{Responsible, contends, called, wakes, Newest, queue_of, Inv}
-use Rattle.invariant.specs.Exclusion.{inside}
+use Rattle.invariant.proofs.Exclusion.{inside}
 use Rattle.invariant.specs.Frames.{moved, waits_as, glide, viewed}
 use Rattle.invariant.specs.Moves.{Completes, Went, completes_more, completes_waits, completes_ends}
 use Rattle.invariant.specs.Kept.{woken_in, Kept, placed, Goes, Setting, mine, kept_stood}
-use Rattle.invariant.specs.OnQueue.{alike_wake, unlinked, goes_on_queue}
+use Rattle.invariant.proofs.OnQueue.{alike_wake, unlinked, goes_on_queue}
 use Rattle.invariant.specs.Tokens.{tokened, inv_tokens}
 use Rattle.invariant.specs.TableFacts.{OwnsNothing, owns_nothing_waiting, owns_nothing_idle, owns_nothing_waking}
 

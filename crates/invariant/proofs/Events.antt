@@ -53,8 +53,8 @@ use Rattle.queue.specs.Tickets.{Ghost}
 use Rattle.invariant.specs.Invariant.{Inv}
 use Rattle.invariant.specs.Moves.{is_aside, Moved, AsideAfter, Went, stood}
 use Rattle.invariant.specs.Kept.{woken_in, Kept, Goes, Setting}
-use Rattle.invariant.specs.Steps.{WaitingNode, touches, slot_waiting, slot_marked, kept_everywhere}
-use Rattle.invariant.specs.Begins.{first_not_aside, kept_begin}
+use Rattle.invariant.proofs.Steps.{WaitingNode, touches, slot_waiting, slot_marked, kept_everywhere}
+use Rattle.invariant.proofs.Begins.{first_not_aside, kept_begin}
 use Rattle.invariant.specs.Bridge.{lock_of, thread_stored, change_stored}
 
 -- a machine that has the invariant

@@ -24,12 +24,12 @@ use Rattle.queue.proofs.Taking
 use Rattle.invariant.specs.Table.{hands_off, writes, owning, about, about_at, links_of, Allowed, weight, same_role}
 use Rattle.invariant.specs.Invariant.{readers, writers, leavers, Unqueued, empty, read, Newest, queue_of, Inv}
 use Rattle.invariant.specs.Invariant.{HoldersAre}
-use Rattle.invariant.specs.Exclusion.{inside, owned, unowned, is_queued, lonely, nobody_needs}
+use Rattle.invariant.proofs.Exclusion.{inside, owned, unowned, is_queued, lonely, nobody_needs}
 use Rattle.invariant.specs.Frames.{land, viewed_still, Recount}
 use Rattle.invariant.specs.Moves.{takes_all_lem, take_fails}
 use Rattle.invariant.specs.Kept.{kept_still, placed, Goes, Setting, mine, moved_to, kept_compare}
-use Rattle.invariant.specs.Owner.{again}
-use Rattle.invariant.specs.Split.{may_wake_lem}
+use Rattle.invariant.proofs.Owner.{again}
+use Rattle.invariant.proofs.Split.{may_wake_lem}
 use Rattle.invariant.specs.Words.{Plain, readers_word, counts_bare, plain_free}
 
 -- ── the word is unqueued again, and the queue is thread t's ──

@@ -25,21 +25,21 @@ use Rattle.queue.specs.Reads.{EachNode, NodeWaits, named_wait}
 use Rattle.queue.specs.Tests.{impossible}
 use Rattle.invariant.specs.Table.{about, Lock, wait_of}
 use Rattle.invariant.specs.Invariant.{Inv}
-use Rattle.invariant.specs.Exclusion.{inside}
+use Rattle.invariant.proofs.Exclusion.{inside}
 use Rattle.invariant.specs.Kept.{Goes, Setting, mine}
-use Rattle.invariant.specs.FirstTry.{kept_try_read_load, kept_try_read_cas, kept_try_write_or}
-use Rattle.invariant.specs.Contend.{kept_contend_load, kept_contend_cas}
-use Rattle.invariant.specs.Register.{kept_register_cas}
-use Rattle.invariant.specs.Wait.{kept_completed_load, kept_park}
-use Rattle.invariant.specs.Walks.{kept_walk_tail, kept_walk_next, kept_walk_prev, kept_walk_head}
-use Rattle.invariant.specs.Owner.{kept_queue_cas}
-use Rattle.invariant.specs.Split.{kept_split_prev, kept_split_store, kept_split_cas, kept_split_restore}
-use Rattle.invariant.specs.Take.{kept_take_cas}
-use Rattle.invariant.specs.Wake.{Waiter-of, waiter_of_lem, kept_wake_prev, kept_wake_store}
-use Rattle.invariant.specs.ReadUnlock.{kept_read_unlock_load, kept_read_unlock_cas}
-use Rattle.invariant.specs.Subtract.{kept_subtract}
-use Rattle.invariant.specs.Release.{kept_write_unlock_cas, kept_release_cas}
-use Rattle.invariant.specs.Downgrade.{kept_downgrade_cas, kept_downgrade_slow_cas}
+use Rattle.invariant.proofs.FirstTry.{kept_try_read_load, kept_try_read_cas, kept_try_write_or}
+use Rattle.invariant.proofs.Contend.{kept_contend_load, kept_contend_cas}
+use Rattle.invariant.proofs.Register.{kept_register_cas}
+use Rattle.invariant.proofs.Wait.{kept_completed_load, kept_park}
+use Rattle.invariant.proofs.Walks.{kept_walk_tail, kept_walk_next, kept_walk_prev, kept_walk_head}
+use Rattle.invariant.proofs.Owner.{kept_queue_cas}
+use Rattle.invariant.proofs.Split.{kept_split_prev, kept_split_store, kept_split_cas, kept_split_restore}
+use Rattle.invariant.proofs.Take.{kept_take_cas}
+use Rattle.invariant.proofs.Wake.{Waiter-of, waiter_of_lem, kept_wake_prev, kept_wake_store}
+use Rattle.invariant.proofs.ReadUnlock.{kept_read_unlock_load, kept_read_unlock_cas}
+use Rattle.invariant.proofs.Subtract.{kept_subtract}
+use Rattle.invariant.proofs.Release.{kept_write_unlock_cas, kept_release_cas}
+use Rattle.invariant.proofs.Downgrade.{kept_downgrade_cas, kept_downgrade_slow_cas}
 
 -- ── which node a step touches ──
 

@@ -22,12 +22,12 @@ use Rattle.queue.specs.Invariant as Q
 use Rattle.queue.proofs.Steps as QueueSteps
 use Rattle.invariant.specs.Table.{hands_off, look_kind, waiter, owning, about, about_at, leaver}
 use Rattle.invariant.specs.Invariant.{readers, writers, leavers, Count, Real, wakes, Newest, queue_of, Inv}
-use Rattle.invariant.specs.Exclusion.{owned, real_hands_off}
+use Rattle.invariant.proofs.Exclusion.{owned, real_hands_off}
 use Rattle.invariant.specs.Frames.{summed, land, viewed_still, same_newest}
 use Rattle.invariant.specs.Moves.{is_aside}
 use Rattle.invariant.specs.Kept.{look_at, Kept, placed, Goes, Setting, mine, gone_to, kept_stood, moved_to}
 use Rattle.invariant.specs.Kept.{kept_compare}
-use Rattle.invariant.specs.OnQueue.{alike_own, unlinked, goes_on_queue, public_look, begun_at}
+use Rattle.invariant.proofs.OnQueue.{alike_own, unlinked, goes_on_queue, public_look, begun_at}
 use Rattle.invariant.specs.TableFacts.{OwnsNothing, owns_nothing_waiting, owns_nothing_idle}
 
 module _ (st : Setting) (who : Who) (seen : Word) where

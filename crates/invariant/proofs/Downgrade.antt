@@ -27,15 +27,15 @@ use Rattle.queue.proofs.Taking
 use Rattle.invariant.specs.Table.{off_queue, writes, about, about_at, role_of, Writes, leaver}
 use Rattle.invariant.specs.Invariant.{writers, leavers, read, Newest, queue_of, Inv, HoldersAre}
 use Rattle.invariant.specs.TableFacts.{row_facts}
-use Rattle.invariant.specs.Exclusion.{inside, unowned, reading, needs_some}
+use Rattle.invariant.proofs.Exclusion.{inside, unowned, reading, needs_some}
 use Rattle.invariant.specs.Moves.{downgrade_takes, downgrade_ends, downgrade_fails}
 use Rattle.invariant.specs.Kept.{look_at, Kept, kept_still, Goes, Setting, mine, gone_to, kept_stood, moved_to}
 use Rattle.invariant.specs.Kept.{kept_compare, became}
-use Rattle.invariant.specs.OffQueue.{off_queue_lem, RoleDown, role_down, goes_off_queue, Ended, ends_call}
-use Rattle.invariant.specs.CallEnds.{ended_bare}
-use Rattle.invariant.specs.Release.{writer_counts}
-use Rattle.invariant.specs.OneHolder.{one_holder, one_holder_bare, one_holder_locked}
-use Rattle.invariant.specs.Take.{takes_whole}
+use Rattle.invariant.proofs.OffQueue.{off_queue_lem, RoleDown, role_down, goes_off_queue, Ended, ends_call}
+use Rattle.invariant.proofs.CallEnds.{ended_bare}
+use Rattle.invariant.proofs.Release.{writer_counts}
+use Rattle.invariant.proofs.OneHolder.{one_holder, one_holder_bare, one_holder_locked}
+use Rattle.invariant.proofs.Take.{takes_whole}
 use Rattle.invariant.specs.Words.{word_is, readers_word}
 
 -- a thread that downgrades, q: whether it needs the queue to stay

@@ -39,8 +39,8 @@ use Rattle.invariant.specs.Frames.{waits_as, stay, viewed}
 use Rattle.invariant.specs.Moves.{is_aside, Went, moves_no_ticket, stood, contend_elsewhere}
 use Rattle.invariant.specs.Kept.{look_at, Kept, kept_still, placed, Goes, Setting, mine, kept_stood, moved_to}
 use Rattle.invariant.specs.Kept.{became, kept_compare}
-use Rattle.invariant.specs.OffQueue.{off_queue_lem, RoleDown, role_down, goes_off_queue, ends_call}
-use Rattle.invariant.specs.CallEnds.{ended_read, ended_written}
+use Rattle.invariant.proofs.OffQueue.{off_queue_lem, RoleDown, role_down, goes_off_queue, ends_call}
+use Rattle.invariant.proofs.CallEnds.{ended_read, ended_written}
 use Rattle.invariant.specs.Words.{word_is, readers_word}
 
 -- the lock rule refuses an unqueued word of the lock only where LOCKED is set

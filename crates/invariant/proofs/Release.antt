@@ -26,14 +26,14 @@ use Rattle.queue.specs.Invariant as Q
 use Rattle.invariant.specs.Table.{hands_off, look_kind, off_queue, writes, not_read, about, Lock, about_at, Writes}
 use Rattle.invariant.specs.Table.{leaver}
 use Rattle.invariant.specs.Invariant.{readers, writers, leavers, Hold, empty, Real, Newest, queue_of, Inv}
-use Rattle.invariant.specs.Exclusion.{needs_some}
+use Rattle.invariant.proofs.Exclusion.{needs_some}
 use Rattle.invariant.specs.Frames.{summed, land, viewed_still, same_newest}
 use Rattle.invariant.specs.Kept.{look_at, Kept, Goes, Setting, mine, kept_stood, moved_to, kept_compare, became}
-use Rattle.invariant.specs.OffQueue.{off_queue_lem, RoleDown, role_down, goes_off_queue, Ended, ends_call}
-use Rattle.invariant.specs.CallEnds.{ended_bare}
-use Rattle.invariant.specs.OneHolder.{one_holder, one_holder_bare, one_holder_plain}
+use Rattle.invariant.proofs.OffQueue.{off_queue_lem, RoleDown, role_down, goes_off_queue, Ended, ends_call}
+use Rattle.invariant.proofs.CallEnds.{ended_bare}
+use Rattle.invariant.proofs.OneHolder.{one_holder, one_holder_bare, one_holder_plain}
 use Rattle.invariant.specs.Words.{word_is, plain_free}
-use Rattle.invariant.specs.OnQueue.{public_look, begun_at}
+use Rattle.invariant.proofs.OnQueue.{public_look, begun_at}
 
 -- a thread that writes counts
 pub writer_counts : (n : ℕ) (s : Lock) (t : ℕ) → t < n → Writes (s.th t).holding → 1 ≤ writers n s + leavers n s
