@@ -1,6 +1,6 @@
 -- What one event may do, in the words of document 01 and demands 1 and 2: the statements alone, each over any program.
 -- m is any machine value, code any byte, t any thread number; `event m code t` is the event's outcome. That `event_of`
--- satisfies each is in Theorems.antt; programs that do not are in Wrong.antt.
+-- satisfies each is in proofs/Theorems.antt; programs that do not are in Wrong.antt.
 -- In order: demand 1, refusals; demand 2, how calls begin and end, what an access reads, what it writes, where it goes,
 -- what is filled, the word gone by, the token, wakes, one access; grants, releases and downgrades; last, all together,
 -- and that only one program satisfies them.

@@ -1,5 +1,5 @@
 -- Demand 3: what holds of every machine that a list of events leads to from a fresh one. The statements alone; they are
--- proved in Theorems.antt.
+-- proved in proofs/Theorems.antt.
 -- Each is over any program (`event`), and the theorem is its instance at `event_of`; programs that break them:
 -- WrongRuns.antt.
 -- n is any count asked for (one that is none gives one thread), es any list of events, codes and threads arbitrary; a

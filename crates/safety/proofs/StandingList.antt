@@ -33,8 +33,8 @@ use Rattle.invariant.proofs.Events.{Ok}
 use Rattle.safety.specs.Lists.{aside_in, wakes_in}
 use Rattle.safety.specs.ListTests.{Tests, among_listed, told}
 use Rattle.safety.specs.Held.{listing_is, held_is, held_few}
-use Rattle.safety.specs.ListMoves.{held_list}
-use Rattle.safety.specs.Spots.{one_spot}
+use Rattle.safety.proofs.ListMoves.{held_list}
+use Rattle.safety.proofs.Spots.{one_spot}
 use Rattle.safety.specs.Statements.{Waiter, Spot, queue, aside, waker, In, At, OneSpot, Says, StandsSo}
 
 module _ (m : Machine) (ok : Ok m) where

@@ -24,13 +24,13 @@ use Rattle.safety.specs.Statements.{TouchedAlive, NeverStopsAtEight, ReplayedSaf
 use Rattle.safety.specs.Calls.{EachCallDoesItsWork}
 use Rattle.safety.specs.Intervals.{down, node_is}
 use Rattle.safety.specs.Runs.{start, reached_ok, reached_count, event_not_eight}
-use Rattle.safety.specs.Plain.{whose, run_allowed}
+use Rattle.safety.proofs.Plain.{whose, run_allowed}
 use Rattle.safety.specs.ChangesWithTheWord.{event_changes}
-use Rattle.safety.specs.Counts.{readers_in, tallied, counted}
-use Rattle.safety.specs.Registrations.{made_in, listing_made}
-use Rattle.safety.specs.ListMoves.{event_lists}
-use Rattle.safety.specs.Spots.{waiter_is, one_spot, spot_waits}
-use Rattle.safety.specs.StandingList.{stands_so}
+use Rattle.safety.proofs.Counts.{readers_in, tallied, counted}
+use Rattle.safety.proofs.Registrations.{made_in, listing_made}
+use Rattle.safety.proofs.ListMoves.{event_lists}
+use Rattle.safety.proofs.Spots.{waiter_is, one_spot, spot_waits}
+use Rattle.safety.proofs.StandingList.{stands_so}
 use Rattle.safety.specs.OneQueueOwner.{owned}
 use Rattle.safety.specs.Stuck.{Rests, nobody_asleep}
 use Rattle.safety.specs.Replays.{replay_not_eight, replayed}

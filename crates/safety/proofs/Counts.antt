@@ -27,7 +27,7 @@ use Rattle.invariant.proofs.Events.{Ok, event_safe}
 use Rattle.safety.specs.Held.{listing_is}
 use Rattle.safety.specs.Intervals.{down, node_by_lem}
 use Rattle.safety.specs.Members.{oldest_down}
-use Rattle.safety.specs.Plain.{within, event_allowed}
+use Rattle.safety.proofs.Plain.{within, event_allowed}
 use Rattle.safety.specs.Runs.{same_count}
 use Rattle.safety.specs.Statements.{Event, after, effect_in, ran_by, ran, Holders, holders_of, Allows}
 use Rattle.safety.specs.Statements.{gained, given_up, tally, Counted}
