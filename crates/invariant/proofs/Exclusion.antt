@@ -14,7 +14,7 @@ use Rattle.queue.specs.Tickets.{Ghost, tickets_of, taken_by}
 use Rattle.queue.specs.Reads.{on_some}
 use Rattle.queue.specs.Roles.{on_queue, changing}
 use Rattle.queue.specs.Invariant as Q
-use Rattle.invariant.specs.Table.{hands_off, reads, writes, not_read, About, about, Lock, about_at, links_of, role_of}
+use Rattle.invariant.specs.Table.{hands_off, writes, not_read, About, about, Lock, about_at, links_of, role_of}
 use Rattle.invariant.specs.Table.{Reads, Allowed, weight, leaver}
 use Rattle.invariant.specs.Invariant.{readers, writers, leavers, Real, queue_of, Inv}
 use Rattle.invariant.specs.TableFacts.{row_facts}

@@ -3,7 +3,7 @@
 use Rattle.std.specs.Prelude.{ℕ, Bool, true, false, ◌≡◌, refl}
 use Rattle.std.proofs.Common.{ap, ◌∙◌}
 use Rattle.word.specs.Cases.{pick_both}
-use Rattle.word.specs.Flags.{word, locked}
+use Rattle.word.specs.Flags.{locked}
 use Rattle.word.specs.Rules.{read_lock_of}
 use Rattle.word.specs.declared.flags.Word.{Word}
 use Rattle.word.specs.declared.rules.ReadLocked.{ReadLocked}

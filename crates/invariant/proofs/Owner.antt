@@ -9,7 +9,7 @@ use Rattle.word.specs.Flags.{to_node}
 use Rattle.word.specs.Laws.{clear_has, clear_keeps, clear_node}
 use Rattle.word.specs.declared.flags.Word.{Word}
 use Rattle.state.specs.Holding.{reads_of, writes_of}
-use Rattle.state.specs.View.{at, after_queue, writes}
+use Rattle.state.specs.View.{after_queue, writes}
 use Rattle.state.specs.declared.place.Place.{Place}
 use Rattle.state.specs.declared.place.Place.TheVariants.{Idle, CompletedLoad, WalkTail, QueueCas}
 use Rattle.state.specs.declared.place.Walk.TheVariants.{Queue}

@@ -28,7 +28,7 @@ use Rattle.invariant.specs.Invariant.{readers, writers, leavers, Unqueued, empty
 use Rattle.invariant.specs.Invariant.{by_writer, by_readers, Count, Real, Newest, queue_of, Inv, CountedAs}
 use Rattle.invariant.specs.Invariant.{HoldersAre}
 use Rattle.invariant.proofs.Exclusion.{unowned}
-use Rattle.invariant.specs.Frames.{moved, waits_as, view, summed, land}
+use Rattle.invariant.specs.Frames.{waits_as, view, summed, land}
 use Rattle.invariant.specs.Moves.{registers_waits, registers_walks, unregistered}
 use Rattle.invariant.specs.Kept.{look_at, Kept, kept_still, placed, Goes, Setting, mine, moved_to, kept_compare}
 use Rattle.invariant.proofs.Contend.{Contends, kept_contend}

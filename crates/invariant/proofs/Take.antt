@@ -21,10 +21,10 @@ use Rattle.queue.specs.Roles.{head, filled, changes, HeadAt}
 use Rattle.queue.specs.Invariant as Q
 use Rattle.queue.proofs.Walking
 use Rattle.queue.proofs.Taking
-use Rattle.invariant.specs.Table.{hands_off, writes, owning, about, about_at, links_of, Allowed, weight, same_role}
+use Rattle.invariant.specs.Table.{hands_off, owning, about, about_at, links_of, Allowed, weight, same_role}
 use Rattle.invariant.specs.Invariant.{readers, writers, leavers, Unqueued, empty, read, Newest, queue_of, Inv}
 use Rattle.invariant.specs.Invariant.{HoldersAre}
-use Rattle.invariant.proofs.Exclusion.{inside, owned, unowned, is_queued, lonely, nobody_needs}
+use Rattle.invariant.proofs.Exclusion.{owned, is_queued, lonely, nobody_needs}
 use Rattle.invariant.specs.Frames.{land, viewed_still, Recount}
 use Rattle.invariant.specs.Moves.{takes_all_lem, take_fails}
 use Rattle.invariant.specs.Kept.{kept_still, placed, Goes, Setting, mine, moved_to, kept_compare}

@@ -1,7 +1,7 @@
 -- Where a rule grants, releases or downgrades, the word changes, but for a contended reader's subtraction:
 -- each such place by its own words.
 -- Assumes nothing.
-use Rattle.std.specs.Prelude.{ℕ, ◌+◌, ◌-◌, ◌<◌, Bool, true, false, not, ◌⊎◌, ◌≡◌, T, eqb, ltb}
+use Rattle.std.specs.Prelude.{ℕ, ◌+◌, ◌<◌, Bool, true, false, not, ◌⊎◌, ◌≡◌, T, eqb, ltb}
 use Rattle.std.proofs.Math.Logic.{inl, inr}
 use Rattle.std.proofs.Math.Path.{refl}
 use Rattle.std.proofs.Common.{sym, ap, subst, ◌∙◌, arith}

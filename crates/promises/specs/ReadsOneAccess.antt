@@ -7,7 +7,7 @@ use Rattle.std.proofs.Common.{inl, sym, ◌∙◌, arith, leb-false, get_or-set_
 use Rattle.std.proofs.Math.Path.{refl, ap, subst}
 use Rattle.word.specs.Base.{pick}
 use Rattle.word.specs.Flags.{word}
-use Rattle.word.specs.Number.{node, slot_of}
+use Rattle.word.specs.Number.{slot_of}
 use Rattle.word.specs.declared.number.Slot.{Slot}
 use Rattle.word.specs.declared.number.Slot.TheVariants.{Outside, At as InSlot}
 use Rattle.word.specs.declared.number.ThreadNumber.{ThreadNumber}

@@ -4,7 +4,7 @@ use Rattle.std.specs.Prelude.{◌≡◌, refl, ◌⊎◌, true, ℕ, suc, ◌≤
 use Rattle.std.proofs.Common.{ap, ◌∙◌, inl, inr, arith}
 use Rattle.queue.specs.Queue.{Links, link_in, Interval, Back, Walker, Full, Agree, relog}
 use Rattle.queue.specs.Queue.{queue_agree, mine_agree}
-use Rattle.queue.specs.Roles.{WalkKind, Role, public, modifies, changing, walked_on, Ground, Over, WalkAt, PastAt}
+use Rattle.queue.specs.Roles.{WalkKind, Role, public, modifies, walked_on, Ground, Over, WalkAt, PastAt}
 use Rattle.queue.specs.Roles.{LinkAt, HeadAt, SplitAt, AsideAt, UndoAt, WakeAt, StoreAt, Know, Still, KeepsClean}
 use Rattle.queue.specs.Roles.{Untouched, Frame, looks, changes, alone, none, ready, walk, past, link, head, split}
 use Rattle.queue.specs.Roles.{aside, undo, wake, store}

@@ -6,7 +6,6 @@ use Rattle.std.proofs.Math.Decide.{dec_lt}
 use Rattle.word.specs.Base.{pick}
 use Rattle.word.specs.Cases.{pick_yes}
 use Rattle.word.specs.Flags.{queued, to_node}
-use Rattle.word.specs.Number.{node}
 use Rattle.word.specs.declared.flags.Word.{Word}
 use Rattle.word.specs.declared.number.NodeNumber.{NodeNumber}
 use Rattle.state.specs.Machine.{good_count, thread_at}
