@@ -56,8 +56,8 @@ module _ {page : List ℕ} {at : ℕ} {text later : List ℕ} {next : ℕ} {line
           ∙ ap (take (at + (length text + 1))) laid
           ∙ laid_shows page at text room short
 
-pub has_room : (size at : ℕ) → has_room size at ≡ true → at + line_width ≤ size
-has_room size at e =
+pub has_room_lem : (size at : ℕ) → has_room size at ≡ true → at + line_width ≤ size
+has_room_lem size at e =
     let both = pick_first (leb at size) (leb line_width (size - at)) false true false≢true e in
     omega (arith, leb-true at size both.0, leb-true line_width (size - at) both.1)
 
@@ -107,7 +107,7 @@ module _
     text = move_text traced c.at moved
 
     laid : Lays page at text later next
-    laid = lays (has_room (length page) at room) (move_short traced c.at moved) e p q
+    laid = lays (has_room_lem (length page) at room) (move_short traced c.at moved) e p q
 
     move : Moves traced c s moved
     move = moves c s traced m

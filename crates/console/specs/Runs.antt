@@ -2,7 +2,7 @@
 -- In order: the answer; a refused file's line; the trace or the print; by what was read of a file.
 -- Not here: the lines (crates print and traced, Whole.antt).
 -- Assumes nothing.
-use Rattle.std.specs.Prelude.{ℕ, ◌+◌, Bool, true, false, List, [], ◌∷◌, ◌++◌, length}
+use Rattle.std.specs.Prelude.{ℕ, Bool, true, false, List, [], ◌∷◌, ◌++◌, length}
 use Rattle.state.specs.declared.machine.Machine.{Machine}
 use Rattle.schedule.specs.Replay.{replay_of}
 use Rattle.schedule.specs.Whole.{file_ran_of, file_refused_of, file_replay_of}

@@ -1,10 +1,21 @@
 // The bytes of a named file, of the one that the first argument names, or of standard input where there is none.
 ghost use Rattle.std.specs.Prelude.{◌≡◌, length};
-ghost use Rattle.io.specs.Counts.{IsPrefixLen};
-ghost use Rattle.console.specs.Input.{ReadBy, unreadable_of};
+ghost use Rattle.console.specs.Input.{IsPrefixLen, ReadBy, unreadable_of};
+
+use crate::output::fail;
+use std::env::FillError;
+use std::io::{self, Read};
+use std::rt::{Env, Files};
+use std::{fs, str};
 
 // One byte more than the largest file that is looked at.
 pub const ENOUGH: usize = 60007;
+
+// One byte more than the longest name of a file.
+const PATH: usize = 4096;
+
+// What the system answers to a name that is too long.
+const NAME_TOO_LONG: i32 = 36;
 
 #[derive(Clone, Copy)]
 pub enum Reading {
@@ -21,70 +32,91 @@ pub struct Received {
     pub reading: Reading,
 }
 
-fn unreadable(what: &[u8]) -> Received
+fn unreadable(rt: &(impl Eprint + AllocGlobal), what: &str, error: io::Error) -> Received
     ensures { result ≡ unreadable_of }
 {
-    os::fail(what);
+    fail(rt, what, error);
     Received {
         length: 0,
         reading: Reading::Unreadable,
     }
 }
 
-// A short count is the end of the input or a failure, and one more read tells which.
-fn read(fd: i32, name: &[u8], bytes: &mut [u8]) -> Received
+// A read of no bytes is the end of the input.
+fn read(
+    rt: &(impl Eprint + AllocGlobal),
+    from: &mut impl Read,
+    name: &str,
+    bytes: &mut [u8],
+) -> Received
     ensures prefix_len { IsPrefixLen result.length bytes.new }
     ensures read_by { ReadBy result.reading result.length (length bytes.new) }
 {
-    let length = io::read_full(fd, bytes);
-    if length == bytes.len() {
-        return Received {
-            length: length,
-            reading: Reading::Full,
-        };
-    }
-    let mut more = [0u8; 1];
-    if libc::read(fd, &mut more) < 0 {
-        return unreadable(name);
+    let mut length: usize = 0;
+    while length < bytes.len() {
+        match from.read(&mut bytes[length..]) {
+            Ok(0) => {
+                return Received {
+                    length: length,
+                    reading: Reading::Whole,
+                };
+            }
+            Ok(more) => length = length + more,
+            Err(error) => return unreadable(rt, name, error),
+        }
     }
     Received {
         length: length,
-        reading: Reading::Whole,
+        reading: Reading::Full,
     }
 }
 
-// The bytes of the file of that name.
-pub fn receive_named(path: &[u8], bytes: &mut [u8]) -> Received
+fn receive_text(rt: &(impl Files + Eprint + AllocGlobal), path: &str, bytes: &mut [u8]) -> Received
     ensures prefix_len { IsPrefixLen result.length bytes.new }
     ensures read_by { ReadBy result.reading result.length (length bytes.new) }
 {
-    let fd = os::open_read(path);
-    if fd < 0 {
-        return unreadable(path);
+    match fs::open(rt, path) {
+        Ok(mut file) => read(rt, &mut file, path, bytes),
+        Err(error) => unreadable(rt, path, error),
     }
-    let received = read(fd, path, bytes);
-    libc::close(fd);
-    received
 }
 
-fn argument(bytes: &mut [u8]) -> Received
+// The bytes of the file of that name, which is text.
+pub fn receive_named(
+    rt: &(impl Files + Eprint + AllocGlobal),
+    path: &[u8],
+    bytes: &mut [u8],
+) -> Received
     ensures prefix_len { IsPrefixLen result.length bytes.new }
     ensures read_by { ReadBy result.reading result.length (length bytes.new) }
 {
-    let mut path = io::buffer();
-    let length = os::arg(1, &mut path);
-    if os::errno() != 0 {
-        return unreadable(b"argument");
+    match str::from_utf8(path) {
+        Ok(text) => receive_text(rt, text, bytes),
+        Err(_) => unreadable(
+            rt,
+            "file name",
+            io::Error::from(io::ErrorKind::InvalidFilename),
+        ),
     }
-    receive_named(&path[..length], bytes)
 }
 
-pub fn receive(bytes: &mut [u8]) -> Received
+fn argument(rt: &(impl Env + Files + Eprint + AllocGlobal), bytes: &mut [u8]) -> Received
     ensures prefix_len { IsPrefixLen result.length bytes.new }
     ensures read_by { ReadBy result.reading result.length (length bytes.new) }
 {
-    if os::arg_count() < 2 {
-        return read(libc::STDIN_FILENO, b"standard input", bytes);
+    let mut path = [0u8; PATH];
+    match rt.arg(1, &mut path) {
+        Ok(length) => receive_named(rt, &path[..length], bytes),
+        Err(_) => unreadable(rt, "argument", io::Error::from_raw_os_error(NAME_TOO_LONG)),
     }
-    argument(bytes)
+}
+
+pub fn receive(rt: &(impl Env + Input + Files + Eprint + AllocGlobal), bytes: &mut [u8]) -> Received
+    ensures prefix_len { IsPrefixLen result.length bytes.new }
+    ensures read_by { ReadBy result.reading result.length (length bytes.new) }
+{
+    match rt.arg(1, &mut []) {
+        Err(FillError::NotPresent) => read(rt, &mut rt.reader(), "standard input", bytes),
+        _ => argument(rt, bytes),
+    }
 }

@@ -6,22 +6,42 @@ ghost use Rattle.console.specs.Output.{has_room, ended_of, written_of, line_writ
 use print::Line;
 use print::line::WIDTH;
 use print::page::lay;
+use std::io;
 
-fn write(bytes: &[u8]) {
-    if !io::write_all(libc::STDOUT_FILENO, bytes) {
-        os::fail(b"standard output");
+// Why, without the number that std sets after it: `No such file or directory (os error 2)`.
+fn reason(error: &str) -> &str {
+    match error.split_once(" (os error ") {
+        Some((why, _)) => why,
+        None => error,
+    }
+}
+
+fn tell(rt: &(impl Eprint + AllocGlobal), what: &str, error: io::Error) -> io::Result<()> {
+    let text = error.to_string(rt.alloc())?;
+    let why = reason(text.as_str());
+    eprintln!(rt; "{what}: {why}")
+}
+
+// Says on standard error what failed, and why. A message that fails itself is left out.
+pub(crate) fn fail(rt: &(impl Eprint + AllocGlobal), what: &str, error: io::Error) {
+    let _ = tell(rt, what, error);
+}
+
+fn write(rt: &(impl Print + Eprint + AllocGlobal), bytes: &[u8]) {
+    if let Err(error) = rt.write_all(bytes) {
+        fail(rt, "standard output", error);
     }
 }
 
 // Writes the page's first `at` bytes, or all where it has fewer, and answers how many those are.
-pub(crate) fn flush(page: &[u8], at: usize) -> usize
+pub(crate) fn flush(rt: &(impl Print + Eprint + AllocGlobal), page: &[u8], at: usize) -> usize
     ensures { result ≡ written_of (length page.now) at }
 {
     if at < page.len() {
-        write(&page[..at]);
+        write(rt, &page[..at]);
         return at;
     }
-    write(page);
+    write(rt, page);
     page.len()
 }
 
@@ -44,10 +64,10 @@ pub(crate) fn lay_line(page: &mut [u8], at: usize, line: Line) -> usize
 }
 
 // One line by itself, and how many bytes that is with its end.
-pub fn write_line(line: Line) -> usize
+pub fn write_line(rt: &(impl Print + Eprint + AllocGlobal), line: Line) -> usize
     ensures { result ≡ line_written line }
 {
     let mut page = [0u8; WIDTH];
     let at = lay_line(&mut page, 0, line);
-    flush(&page, at)
+    flush(rt, &page, at)
 }

@@ -19,6 +19,9 @@ use state::Machine;
 use traced::thread::thread_line;
 use word::ThreadNumber;
 
+// The pages that lines are laid on.
+const PAGE: usize = 65536;
+
 // What a file's replay came to, and how many bytes were written of it.
 #[derive(Clone, Copy)]
 pub struct Printed {
@@ -42,20 +45,31 @@ fn threads(m: Machine, page: &mut [u8]) -> usize
 }
 
 // The trace's last lines, and how many bytes they are.
-fn last(traced: bool, m: Machine, page: &mut [u8]) -> usize
+fn last(
+    rt: &(impl Print + Eprint + AllocGlobal),
+    traced: bool,
+    m: Machine,
+    page: &mut [u8],
+) -> usize
     requires { length page.old ≡ page_size }
     ensures value { result ≡ length (bytes_of (end_lines traced m)) }
     ensures upper_bound { result ≤ page_size }
 {
     if traced {
         let at = threads(m, page);
-        return flush(page, at);
+        return flush(rt, page, at);
     }
     0
 }
 
 // Page after page, until the replay is over.
-fn run(traced: bool, first: Machine, s: &[u8], page: &mut [u8]) -> Printed
+fn run(
+    rt: &(impl Print + Eprint + AllocGlobal),
+    traced: bool,
+    first: Machine,
+    s: &[u8],
+    page: &mut [u8],
+) -> Printed
     requires { (length page.old ≡ page_size) × (length s.now ≤ event_width * event_limit) }
     ensures { result ≡ ran_printed traced first s.now }
 {
@@ -63,12 +77,12 @@ fn run(traced: bool, first: Machine, s: &[u8], page: &mut [u8]) -> Printed
     let mut bytes: usize = 0;
     loop {
         let filled = fill(traced, cursor, s, page);
-        bytes = bytes + flush(page, filled.at);
+        bytes = bytes + flush(rt, page, filled.at);
         let going = filled.going;
         let on = filled.cursor;
         if let Going::Over(stop) = going {
             let machine = on.machine;
-            let more = last(traced, machine, page);
+            let more = last(rt, traced, machine, page);
             let replayed = FileReplayed {
                 machine: machine,
                 run: on.at,
@@ -84,10 +98,10 @@ fn run(traced: bool, first: Machine, s: &[u8], page: &mut [u8]) -> Printed
 }
 
 // A refused file's one line.
-fn refused(refusal: FileRefusal) -> Printed
+fn refused(rt: &(impl Print + Eprint + AllocGlobal), refusal: FileRefusal) -> Printed
     ensures { result ≡ refused_printed refusal }
 {
-    let bytes = write_line(refused_line(refusal.number()));
+    let bytes = write_line(rt, refused_line(refusal.number()));
     let fresh = Machine::fresh(1);
     let machine = fresh.machine;
     let replayed = FileReplayed {
@@ -101,59 +115,63 @@ fn refused(refusal: FileRefusal) -> Printed
     }
 }
 
-fn file(traced: bool, s: &[u8]) -> Printed
+fn file(rt: &(impl Print + Eprint + AllocGlobal), traced: bool, s: &[u8]) -> Printed
     ensures { result ≡ file_printed traced s.now }
 {
     let checked = check(s);
     match checked {
-        Checked::Refused(refusal) => refused(refusal),
+        Checked::Refused(refusal) => refused(rt, refusal),
         Checked::Accepted { threads, events: _ } => {
             let fresh = Machine::fresh(threads);
-            let mut page = io::large_buffer();
-            run(traced, fresh.machine, events(s), &mut page)
+            let mut page = [0u8; PAGE];
+            run(rt, traced, fresh.machine, events(s), &mut page)
         }
     }
 }
 
 // Document 01's print.
-pub fn replay(s: &[u8]) -> Printed
+pub fn replay(rt: &(impl Print + Eprint + AllocGlobal), s: &[u8]) -> Printed
     ensures { result ≡ printed_of (file_replay_of s.now) (print_bytes s.now) }
 {
-    file(false, s)
+    file(rt, false, s)
 }
 
 // The same with the waiters and the reader count, and a line for each thread at the end (docs/TRACE.md).
-pub fn trace(s: &[u8]) -> Printed
+pub fn trace(rt: &(impl Print + Eprint + AllocGlobal), s: &[u8]) -> Printed
     ensures { result ≡ printed_of (file_replay_of s.now) (trace_bytes s.now) }
 {
-    file(true, s)
+    file(rt, true, s)
 }
 
 // What is printed for a file of more bytes than are looked at.
-pub fn too_long() -> Printed
+pub fn too_long(rt: &(impl Print + Eprint + AllocGlobal)) -> Printed
     ensures { result ≡ refused_printed TooMany }
 {
-    refused(FileRefusal::TooMany)
+    refused(rt, FileRefusal::TooMany)
 }
 
 // The print of a file by what was read of it, and how many bytes that is.
-pub fn replay_received(reading: Reading, s: &[u8]) -> usize
+pub fn replay_received(
+    rt: &(impl Print + Eprint + AllocGlobal),
+    reading: Reading,
+    s: &[u8],
+) -> usize
     ensures { result ≡ length (received_bytes print_bytes reading s.now) }
 {
     match reading {
         Reading::Unreadable => 0,
-        Reading::Full => too_long().bytes,
-        Reading::Whole => replay(s).bytes,
+        Reading::Full => too_long(rt).bytes,
+        Reading::Whole => replay(rt, s).bytes,
     }
 }
 
 // The trace, likewise.
-pub fn trace_received(reading: Reading, s: &[u8]) -> usize
+pub fn trace_received(rt: &(impl Print + Eprint + AllocGlobal), reading: Reading, s: &[u8]) -> usize
     ensures { result ≡ length (received_bytes trace_bytes reading s.now) }
 {
     match reading {
         Reading::Unreadable => 0,
-        Reading::Full => too_long().bytes,
-        Reading::Whole => trace(s).bytes,
+        Reading::Full => too_long(rt).bytes,
+        Reading::Whole => trace(rt, s).bytes,
     }
 }

@@ -8,7 +8,7 @@ mod sheet;
 
 use sheet::Tally;
 
-fn main() {
-    let replayed = replays::all(Tally { right: 0, wrong: 0 });
-    sheet::total(files::all(replayed));
+fn main(rt: HostRuntime) {
+    let replayed = replays::all(&rt, Tally { right: 0, wrong: 0 });
+    sheet::total(&rt, files::all(&rt, replayed));
 }

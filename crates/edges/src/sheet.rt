@@ -15,9 +15,15 @@ pub(crate) fn more(n: u64) -> u64 {
     n
 }
 
-pub(crate) fn tell(so_far: Tally, what: &[u8], expected: u64, found: u64) -> Tally {
+pub(crate) fn tell(
+    rt: &(impl Print + Eprint + AllocGlobal),
+    so_far: Tally,
+    what: &[u8],
+    expected: u64,
+    found: u64,
+) -> Tally {
     let named = Line::blank().text(what).text(b": expected ");
-    write_line(named.decimal(expected).text(b", found ").decimal(found));
+    write_line(rt, named.decimal(expected).text(b", found ").decimal(found));
     if expected == found {
         return Tally {
             right: more(so_far.right),
@@ -30,7 +36,7 @@ pub(crate) fn tell(so_far: Tally, what: &[u8], expected: u64, found: u64) -> Tal
     }
 }
 
-pub(crate) fn total(so_far: Tally) {
+pub(crate) fn total(rt: &(impl Print + Eprint + AllocGlobal), so_far: Tally) {
     let right = Line::blank().decimal(so_far.right).text(b" right, ");
-    write_line(right.decimal(so_far.wrong).text(b" wrong"));
+    write_line(rt, right.decimal(so_far.wrong).text(b" wrong"));
 }

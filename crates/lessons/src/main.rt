@@ -5,21 +5,22 @@ use console::input::{ENOUGH, receive_named};
 use console::output::write_line;
 use console::runs::trace_received;
 use print::Line;
+use std::rt::Files;
 
-fn lesson(name: &[u8]) {
-    write_line(Line::blank().text(b"== ").text(name));
+fn lesson(rt: &(impl Files + Print + Eprint + AllocGlobal), name: &[u8]) {
+    write_line(rt, Line::blank().text(b"== ").text(name));
     let mut file = [0u8; ENOUGH];
-    let got = receive_named(name, &mut file);
+    let got = receive_named(rt, name, &mut file);
     let reading = got.reading;
-    trace_received(reading, &file[..got.length]);
+    trace_received(rt, reading, &file[..got.length]);
 }
 
-fn main() {
-    lesson(b"weak-compare.schedule");
-    lesson(b"reader-count.schedule");
-    lesson(b"stale-next.schedule");
-    lesson(b"barging.schedule");
-    lesson(b"retracted-downgrade.schedule");
-    lesson(b"failed-split.schedule");
-    lesson(b"lost-wake-up.schedule");
+fn main(rt: HostRuntime) {
+    lesson(&rt, b"weak-compare.schedule");
+    lesson(&rt, b"reader-count.schedule");
+    lesson(&rt, b"stale-next.schedule");
+    lesson(&rt, b"barging.schedule");
+    lesson(&rt, b"retracted-downgrade.schedule");
+    lesson(&rt, b"failed-split.schedule");
+    lesson(&rt, b"lost-wake-up.schedule");
 }

@@ -4,9 +4,9 @@
 use console::input::{ENOUGH, receive};
 use console::runs::replay_received;
 
-fn main() {
+fn main(rt: HostRuntime) {
     let mut file = [0u8; ENOUGH];
-    let got = receive(&mut file);
+    let got = receive(&rt, &mut file);
     let reading = got.reading;
-    replay_received(reading, &file[..got.length]);
+    replay_received(&rt, reading, &file[..got.length]);
 }

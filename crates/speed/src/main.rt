@@ -27,17 +27,17 @@ fn over(s: &[u8]) -> u64 {
     run
 }
 
-fn tell(events: u64) {
-    write_line(Line::blank().decimal(events).text(b" events"));
+fn tell(rt: &(impl Print + Eprint + AllocGlobal), events: u64) {
+    write_line(rt, Line::blank().decimal(events).text(b" events"));
 }
 
-fn main() {
+fn main(rt: HostRuntime) {
     let mut file = [0u8; ENOUGH];
-    let got = receive(&mut file);
+    let got = receive(&rt, &mut file);
     let reading = got.reading;
     match reading {
         Reading::Unreadable => (),
-        Reading::Full => tell(0),
-        Reading::Whole => tell(over(&file[..got.length])),
+        Reading::Full => tell(&rt, 0),
+        Reading::Whole => tell(&rt, over(&file[..got.length])),
     }
 }

@@ -5,9 +5,9 @@
 use console::input::{ENOUGH, receive};
 use console::runs::trace_received;
 
-fn main() {
+fn main(rt: HostRuntime) {
     let mut file = [0u8; ENOUGH];
-    let got = receive(&mut file);
+    let got = receive(&rt, &mut file);
     let reading = got.reading;
-    trace_received(reading, &file[..got.length]);
+    trace_received(&rt, reading, &file[..got.length]);
 }

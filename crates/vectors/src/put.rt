@@ -18,13 +18,13 @@ pub(crate) fn text(out: &mut [u8], at: usize, s: &[u8]) -> usize {
     to
 }
 
+fn decimal(out: &mut [u8], at: usize, n: u64) -> usize {
+    let before = if n < 10 { at } else { decimal(out, at, n / 10) };
+    byte(out, before, b'0' + (n % 10) as u8)
+}
+
 // A space, and the number in decimal.
 pub(crate) fn number(out: &mut [u8], at: usize, n: u64) -> usize {
     let spaced = byte(out, at, b' ');
-    if n < 10 {
-        return byte(out, spaced, b'0' + n as u8);
-    }
-    let mut digits = [0u8; 20];
-    let k = io::decimal(n, &mut digits);
-    text(out, spaced, &digits[..k])
+    decimal(out, spaced, n)
 }
