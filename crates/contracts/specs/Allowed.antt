@@ -1,7 +1,7 @@
 -- A contract read as what it allows: the generated module of each function (`Reads`) has it as `Post`, a claim over the
 -- lifetimes, the arguments at entry, the result and the arguments at exit.
---     _&_, slice                   arguments as a contract takes them
---     allows, AllowsLent          what it allows of a result, where every argument stays as it was
+--     ◌&◌, slice, lent             arguments as a contract takes them
+--     Allows, AllowsLent           what it allows of a result, where every argument stays as it was
 --     Determined, DeterminedBytes  any two results that are allowed are equal; of a slice, their bytes
 --     determined, determined_bytes what shows it of a contract that is an equation. A weaker contract is refused
 --     clash, apart_by, apart_in    what shows that a wrong answer is not allowed
@@ -9,8 +9,7 @@
 -- Assumes nothing.
 use Rattle.std.specs.Prelude.{ℕ, false, ◌≡◌, List, eqb}
 use Rattle.std.proofs.Common.{sym, ap, ◌∙◌, arith}
-use Rattle.std.specs.Borrow.{Bor}
-use contract.Lifetimes.{Lfts}
+use Rattle.std.specs.Borrow.{Bor, MutBor}
 use Rattle.std.proofs.lemmas.Bool.{eqb-false}
 
 -- a function's arguments, one after the other, closed by tt
@@ -22,11 +21,15 @@ abbrev pub ◌&◌ : {A B : Type 0} → A → B → A × B
 abbrev pub slice : List ℕ → Bor (List ℕ)
 slice bytes = record { ref_ptr = (0, 0); now = bytes }
 
+-- the same, lent to be stored to
+abbrev pub lent : List ℕ → MutBor (List ℕ)
+lent bytes = record { ref_ptr = (0, 0); ghost_name = 0; now = bytes }
+
 abbrev pub Allows : {A R : Type 0} → (Unit {0} → A → R → A → Type 0) → A → R → Type 0
 Allows post a r = post tt a r a
 
--- the same where arguments, or the result, are slices of one lifetime
-abbrev pub AllowsLent : {A R : Type 0} → (Lfts 1 → A → R → A → Type 0) → Lfts 1 → A → R → Type 0
+-- the same where arguments, or the result, are lent: K is what there is of lifetimes
+abbrev pub AllowsLent : {K A R : Type 0} → (K → A → R → A → Type 0) → K → A → R → Type 0
 AllowsLent post κs a r = post κs a r a
 
 abbrev pub Determined : {R : Type 0} → (R → Type 0) → Type 0

@@ -2,7 +2,7 @@
 -- blank. Assumes nothing.
 use Rattle.std.specs.Prelude.{ℕ, ◌-◌, true, false, List, ◌++◌, replicate, length}
 use Rattle.word.specs.Flags.{word}
-use Rattle.word.specs.Number.{node, thread}
+use Rattle.word.specs.Number.{thread}
 use Rattle.state.specs.Machine.{blank_thread, thread_limit}
 use Rattle.state.specs.Node.{blank_node}
 use Rattle.state.specs.declared.holding.Holding.{Holding}

@@ -1,13 +1,8 @@
 -- The contracts of crate held: both public functions' results are determined, but for where the bytes of the rest lie,
--- and wrong answers that the contracts rule out. Both are walked by hand, so no `Reads` is generated for them: here the
--- contract's own clause is read in the same way, at the closed model. Assumes nothing.
+-- and wrong answers that the contracts rule out. Assumes nothing.
 use Rattle.std.specs.Prelude.{ℕ, true, ◌≡◌, refl, List, [], ◌∷◌, length}
 use Rattle.std.specs.Borrow.{Bor}
 use contract.Lifetimes.{Lfts}
-use base.Logic.{emp}
-use borrow.Fn.Claims.{AllOf}
-use borrow.Fn.Read.{ReadAt, no_know, r_last}
-use borrow.Fn.World.{World, Pr, w₀}
 use Rattle.state.specs.Access.{access_of}
 use Rattle.state.specs.declared.answer.Refusal.TheVariants.{InsideCall}
 use Rattle.state.specs.declared.holding.Holding.TheVariants as Holds
@@ -21,14 +16,10 @@ use Rattle.schedule.specs.declared.whole.FileStop.TheVariants as FileStops
 use Rattle.held.specs.Held.{file_shown_of, shown_of}
 use Rattle.held.specs.declared.replay.Held.{Held}
 use Rattle.held.specs.declared.whole.FileHeld.{FileHeld}
-use Rattle.held.specs.contracts.replay.replay_held as replay_held
-use Rattle.held.specs.contracts.whole.replay_file_held as replay_file_held
-use Rattle.contracts.specs.Allowed.{◌&◌, apart_by, determined, slice}
+use Rattle.held.proofs.replay.replay_held.Reads as replay_held
+use Rattle.held.proofs.whole.replay_file_held.Reads as replay_file_held
+use Rattle.contracts.specs.Allowed.{◌&◌, AllowsLent, apart_by, determined, slice}
 use Rattle.contracts.specs.Examples.{machine_of, thread_of}
-
--- whoever reads the clause has nothing besides
-abbrev nothing : (w : World) → Pr w
-nothing w = emp w.𝓤
 
 -- one thread begins a write twice: the second is refused; and the file of that
 abbrev twice : List ℕ
@@ -46,17 +37,9 @@ writing = machine_of 1 0 [] (thread_of (At.TryWriteOr true) Holds.Nothing ∷ []
 
 -- ── replay_held ──
 
-abbrev held_read : (κs : Lfts 1) (m : Machine) (s : Bor (List ℕ)) (r : Held)
-    → ReadAt w₀ nothing no_know
-    ((replay_held.clauses w₀.𝓛 w₀.𝓜.mem w₀.𝓡.run κs (m & s & tt)).ensures
-    tt
-    r
-    (m & s & tt))
-held_read κs m s r = r_last _
-
 -- what its contract allows
 abbrev pub HeldAllowed : Lfts 1 → Machine → Bor (List ℕ) → Held → Type 0
-HeldAllowed κs m s r = AllOf (held_read κs m s r).owes
+HeldAllowed κs m s r = AllowsLent replay_held.Post κs (m & s & tt) r
 
 pub replay_held_determined : (κs : Lfts 1) (m : Machine) (s : Bor (List ℕ)) (r q : Held)
     → HeldAllowed κs m s r
@@ -77,17 +60,8 @@ replay_held_rest_one_event_further κs = apart_by (λ r. length r.1) refl
 
 -- ── replay_file_held ──
 
-abbrev file_held_read : (κs : Lfts 1) (s : Bor (List ℕ)) (r : FileHeld)
-    → ReadAt w₀ nothing no_know
-    ((replay_file_held.clauses w₀.𝓛 w₀.𝓜.mem w₀.𝓡.run κs (s & tt)).ensures
-    tt
-    r
-    (s & tt))
-file_held_read κs s r = r_last _
-
--- what its contract allows
 abbrev pub FileHeldAllowed : Lfts 1 → Bor (List ℕ) → FileHeld → Type 0
-FileHeldAllowed κs s r = AllOf (file_held_read κs s r).owes
+FileHeldAllowed κs s r = AllowsLent replay_file_held.Post κs (s & tt) r
 
 pub replay_file_held_determined : (κs : Lfts 1) (s : Bor (List ℕ)) (r q : FileHeld)
     → FileHeldAllowed κs s r

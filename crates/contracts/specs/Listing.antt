@@ -84,11 +84,13 @@ sit_number (Sitting.Node n) = n.0
 pub reader_count_determined : (m : Machine) → Determined (Allows reader_count.Post (m & tt))
 reader_count_determined m = determined
 
-pub reader_count_in_the_newest : Allows reader_count.Post (queue 55 & tt) (report_of 1 (Sitting.Node (node 3)) 32 16) → ⊥
+pub reader_count_in_the_newest :
+    Allows reader_count.Post (queue 55 & tt) (report_of 1 (Sitting.Node (node 3)) 32 16) → ⊥
 unfolding to_set to_tail reads_below
 reader_count_in_the_newest = apart_by (λ r. sit_number (sits_in r)) refl
 
-pub reader_count_in_the_word_while_queued : Allows reader_count.Post (queue 55 & tt) (report_of 1 Sitting.Word 55 17) → ⊥
+pub reader_count_in_the_word_while_queued :
+    Allows reader_count.Post (queue 55 & tt) (report_of 1 Sitting.Word 55 17) → ⊥
 unfolding to_set to_tail reads_below
 reader_count_in_the_word_while_queued = apart_in sits_in (λ e. clash (cc))
 

@@ -36,7 +36,7 @@ use Rattle.lock.specs.Step.{marked_of, step_of}
 use Rattle.lock.specs.declared.code.Call.TheVariants as Calls
 use Rattle.lock.specs.declared.code.Code.TheVariants as Codes
 use Rattle.lock.specs.declared.look.Look.{Look}
-use Rattle.lock.proofs.code.code_of.Reads as code_of_lem
+use Rattle.lock.proofs.code.code_of.Reads as code_of
 use Rattle.lock.proofs.decide.decide.Reads as decide
 use Rattle.lock.proofs.event.event.Reads as event
 use Rattle.lock.proofs.look.look_at.Reads as look_at
@@ -45,16 +45,16 @@ use Rattle.contracts.specs.Examples.{machine_of, thread_of}
 
 -- ── codes ──
 
-pub code_of_determined : (code : ℕ) → Determined (Allows code_of_lem.Post (code & tt))
+pub code_of_determined : (code : ℕ) → Determined (Allows code_of.Post (code & tt))
 code_of_determined code = determined
 
-pub code_of_seven_begins : Allows code_of_lem.Post (7 & tt) (Codes.Begin Calls.Downgrade) → ⊥
+pub code_of_seven_begins : Allows code_of.Post (7 & tt) (Codes.Begin Calls.Downgrade) → ⊥
 code_of_seven_begins e = clash (cc)
 
-pub code_of_sixteen_fails : Allows code_of_lem.Post (16 & tt) Codes.Fail → ⊥
+pub code_of_sixteen_fails : Allows code_of.Post (16 & tt) Codes.Fail → ⊥
 code_of_sixteen_fails e = clash (cc)
 
-pub code_of_four_and_five_swapped : Allows code_of_lem.Post (4 & tt) (Codes.Begin Calls.WriteUnlock) → ⊥
+pub code_of_four_and_five_swapped : Allows code_of.Post (4 & tt) (Codes.Begin Calls.WriteUnlock) → ⊥
 code_of_four_and_five_swapped e = clash (cc)
 
 -- ── look, decide ──

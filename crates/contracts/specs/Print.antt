@@ -1,7 +1,7 @@
 -- The contracts of crate print: each public function's result is determined, and of the one that lays a line the page
 -- at exit too; and wrong answers that its contract rules out. Lines, the page, document 01's lines. Assumes nothing.
-use Rattle.std.specs.Prelude.{ℕ, ◌≡◌, refl, List, [], ◌∷◌, length, get_or}
-use Rattle.std.specs.Borrow.{Bor}
+use Rattle.std.specs.Prelude.{ℕ, ◌≡◌, refl, List, [], ◌∷◌, get_or}
+use Rattle.std.specs.Borrow.{Bor, MutBor}
 use contract.Lifetimes.{Lfts}
 use Rattle.word.specs.Flags.{word}
 use Rattle.word.specs.Number.{thread}
@@ -30,7 +30,7 @@ use Rattle.print.proofs.replayed.event_line.Reads as event_line
 use Rattle.print.proofs.replayed.refused_line.Reads as refused_line
 use Rattle.print.proofs.replayed.step_line.Reads as step_line
 use Rattle.contracts.specs.Allowed.{Determined, ◌&◌, Allows, AllowsLent, apart_by, clash, determined}
-use Rattle.contracts.specs.Allowed.{determined_bytes, slice}
+use Rattle.contracts.specs.Allowed.{lent, slice}
 use Rattle.contracts.specs.Examples.{machine_of}
 use Rattle.contracts.specs.Looks.{byte_at}
 
@@ -82,16 +82,16 @@ decimal_of_zero_is_empty = apart_by (λ l. l.length) refl
 
 -- ── the page ──
 
-pub lay_determined : (κs : Lfts 1) (page p q : Bor (List ℕ)) (at r s : ℕ) (line : Line)
+pub lay_determined : (κs : Lfts 1) (page p q : MutBor (List ℕ)) (at r s : ℕ) (line : Line)
     → lay.Post κs (page & at & line & tt) r (p & at & line & tt)
     → lay.Post κs (page & at & line & tt) s (q & at & line & tt)
     → (r ≡ s) × (p.now ≡ q.now)
-lay_determined κs page p q at r s line a b = (determined r s a.0 b.0, determined_bytes p q a.1 b.1)
+lay_determined κs page p q at r s line a b = (determined r s a.0 b.0, determined p.now q.now a.1 b.1)
 
 -- a page of two bytes, laid at its second
 abbrev laid : Lfts 1 → List ℕ → List ℕ → ℕ → Type 0
 laid κs text after r =
-    lay.Post κs (slice (0 ∷ 0 ∷ []) & 1 & line_of text & tt) r (slice after & 1 & line_of text & tt)
+    lay.Post κs (lent (0 ∷ 0 ∷ []) & 1 & line_of text & tt) r (lent after & 1 & line_of text & tt)
 
 pub lay_past_the_page : (κs : Lfts 1) → laid κs (ascii "no") (0 ∷ 110 ∷ []) 3 → ⊥
 unfolding put_all

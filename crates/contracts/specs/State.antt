@@ -1,6 +1,6 @@
 -- The contracts of crate state: each public function's result is determined, and two or three wrong answers that its
 -- contract rules out. In the order of its files: access, answer, holding, machine, node, view. Assumes nothing.
-use Rattle.std.specs.Prelude.{ℕ, Bool, true, false, refl, [], length}
+use Rattle.std.specs.Prelude.{ℕ, Bool, true, false, refl, []}
 use Rattle.std.proofs.lemmas.Bool.{false≢true}
 use Rattle.std.proofs.Common.{sym}
 use Rattle.word.specs.Flags.{word}
@@ -40,23 +40,23 @@ use Rattle.state.proofs.access.Access.touched.Reads as touched
 use Rattle.state.proofs.answer.Answer.text.Reads as text
 use Rattle.state.proofs.answer.Refusal.number.Reads as number
 use Rattle.state.proofs.holding.Holding.downgraded.Reads as downgraded
-use Rattle.state.proofs.holding.Holding.granted_read.Reads as granted_read_lem
-use Rattle.state.proofs.holding.Holding.granted_write.Reads as granted_write_lem
+use Rattle.state.proofs.holding.Holding.granted_read.Reads as granted_read
+use Rattle.state.proofs.holding.Holding.granted_write.Reads as granted_write
 use Rattle.state.proofs.holding.Holding.reads.Reads as reads_held
-use Rattle.state.proofs.holding.Holding.released_read.Reads as released_read_lem
-use Rattle.state.proofs.holding.Holding.released_write.Reads as released_write_lem
+use Rattle.state.proofs.holding.Holding.released_read.Reads as released_read
+use Rattle.state.proofs.holding.Holding.released_write.Reads as released_write
 use Rattle.state.proofs.holding.Holding.writes.Reads as writes_held
 use Rattle.state.proofs.machine.Machine.fresh.Reads as fresh
 use Rattle.state.proofs.machine.Machine.refused.Reads as refused
-use Rattle.state.proofs.machine.Thread.blank.Reads as blank_thread_lem
-use Rattle.state.proofs.machine.good_count.Reads as good_count_lem
-use Rattle.state.proofs.node.Node.blank.Reads as blank_node_lem
+use Rattle.state.proofs.machine.Thread.blank.Reads as blank_thread
+use Rattle.state.proofs.machine.good_count.Reads as good_count
+use Rattle.state.proofs.node.Node.blank.Reads as blank_node_fn
 use Rattle.state.proofs.node.Node.filled.Reads as filled
-use Rattle.state.proofs.node.Node.with_completed.Reads as with_completed_lem
-use Rattle.state.proofs.node.Node.with_next.Reads as with_next_lem
-use Rattle.state.proofs.node.Node.with_prev.Reads as with_prev_lem
+use Rattle.state.proofs.node.Node.with_completed.Reads as with_completed_fn
+use Rattle.state.proofs.node.Node.with_next.Reads as with_next_fn
+use Rattle.state.proofs.node.Node.with_prev.Reads as with_prev_fn
 use Rattle.state.proofs.node.Node.with_tail.Reads as with_tail
-use Rattle.state.proofs.view.Next.after_queue.Reads as after_queue_lem
+use Rattle.state.proofs.view.Next.after_queue.Reads as after_queue
 use Rattle.state.proofs.view.Next.at.Reads as at_place
 use Rattle.state.proofs.view.Next.end.Reads as end_answer
 use Rattle.state.proofs.view.Next.granted.Reads as granted_next
@@ -67,7 +67,7 @@ use Rattle.state.proofs.view.View.links.Reads as links_node
 use Rattle.state.proofs.view.View.parks.Reads as parks_thread
 use Rattle.state.proofs.view.View.stays.Reads as stays_put
 use Rattle.state.proofs.view.View.subtracts.Reads as subtracts_count
-use Rattle.state.proofs.view.View.writes.Reads as writes_word_lem
+use Rattle.state.proofs.view.View.writes.Reads as writes_word
 use Rattle.contracts.specs.Allowed.{Determined, ◌&◌, Allows, apart_by, apart_in, clash, determined}
 use Rattle.contracts.specs.Examples.{failing, holds, machine_of, seeing, thread_of, tokened}
 use Rattle.contracts.specs.Looks.{answer_after, holding_after, next_after, node_number, owner_number, place_after}
@@ -102,7 +102,8 @@ of_walk_stores_at_the_node_left = apart_by (λ a. (touched_of a (thread 0)).0) r
 pub touched_determined : (a : Access) (me : ThreadNumber) → Determined (Allows touched.Post (a & me & tt))
 touched_determined a me = determined
 
-pub touched_is_always_the_own : Allows touched.Post (load_of (Locations.Completed (node 2)) & thread 0 & tt) (node 1) → ⊥
+pub touched_is_always_the_own :
+    Allows touched.Post (load_of (Locations.Completed (node 2)) & thread 0 & tt) (node 1) → ⊥
 touched_is_always_the_own = apart_by node_number refl
 
 pub touched_at_the_word_is_none : Allows touched.Post (at_word_of Kinds.Load & thread 0 & tt) (node 0) → ⊥
@@ -151,40 +152,40 @@ writes_of_a_reader e = clash (cc)
 pub writes_of_a_writer_is_none : Allows writes_held.Post (Holds.Write & tt) 0 → ⊥
 writes_of_a_writer_is_none e = clash (cc)
 
-pub granted_read_determined : (h : Holding) → Determined (Allows granted_read_lem.Post (h & tt))
+pub granted_read_determined : (h : Holding) → Determined (Allows granted_read.Post (h & tt))
 granted_read_determined h = determined
 
-pub granted_read_gives_nothing : Allows granted_read_lem.Post (Holds.Nothing & tt) Holds.Nothing → ⊥
+pub granted_read_gives_nothing : Allows granted_read.Post (Holds.Nothing & tt) Holds.Nothing → ⊥
 granted_read_gives_nothing e = clash (cc)
 
-pub granted_read_gives_write : Allows granted_read_lem.Post (Holds.Nothing & tt) Holds.Write → ⊥
+pub granted_read_gives_write : Allows granted_read.Post (Holds.Nothing & tt) Holds.Write → ⊥
 granted_read_gives_write e = clash (cc)
 
-pub granted_write_determined : (h : Holding) → Determined (Allows granted_write_lem.Post (h & tt))
+pub granted_write_determined : (h : Holding) → Determined (Allows granted_write.Post (h & tt))
 granted_write_determined h = determined
 
-pub granted_write_gives_nothing : Allows granted_write_lem.Post (Holds.Nothing & tt) Holds.Nothing → ⊥
+pub granted_write_gives_nothing : Allows granted_write.Post (Holds.Nothing & tt) Holds.Nothing → ⊥
 granted_write_gives_nothing e = clash (cc)
 
-pub granted_write_gives_read : Allows granted_write_lem.Post (Holds.Nothing & tt) Holds.Read → ⊥
+pub granted_write_gives_read : Allows granted_write.Post (Holds.Nothing & tt) Holds.Read → ⊥
 granted_write_gives_read e = clash (cc)
 
-pub released_read_determined : (h : Holding) → Determined (Allows released_read_lem.Post (h & tt))
+pub released_read_determined : (h : Holding) → Determined (Allows released_read.Post (h & tt))
 released_read_determined h = determined
 
-pub released_read_keeps_it : Allows released_read_lem.Post (Holds.Read & tt) Holds.Read → ⊥
+pub released_read_keeps_it : Allows released_read.Post (Holds.Read & tt) Holds.Read → ⊥
 released_read_keeps_it e = clash (cc)
 
-pub released_read_gives_write : Allows released_read_lem.Post (Holds.Read & tt) Holds.Write → ⊥
+pub released_read_gives_write : Allows released_read.Post (Holds.Read & tt) Holds.Write → ⊥
 released_read_gives_write e = clash (cc)
 
-pub released_write_determined : (h : Holding) → Determined (Allows released_write_lem.Post (h & tt))
+pub released_write_determined : (h : Holding) → Determined (Allows released_write.Post (h & tt))
 released_write_determined h = determined
 
-pub released_write_keeps_it : Allows released_write_lem.Post (Holds.Write & tt) Holds.Write → ⊥
+pub released_write_keeps_it : Allows released_write.Post (Holds.Write & tt) Holds.Write → ⊥
 released_write_keeps_it e = clash (cc)
 
-pub released_write_downgrades : Allows released_write_lem.Post (Holds.Write & tt) Holds.Read → ⊥
+pub released_write_downgrades : Allows released_write.Post (Holds.Write & tt) Holds.Read → ⊥
 released_write_downgrades e = clash (cc)
 
 pub holding_downgraded_determined : (h : Holding) → Determined (Allows downgraded.Post (h & tt))
@@ -198,26 +199,26 @@ downgraded_releases e = clash (cc)
 
 -- ── machine ──
 
-pub blank_thread_determined : Determined (Allows blank_thread_lem.Post tt)
+pub blank_thread_determined : Determined (Allows blank_thread.Post tt)
 blank_thread_determined = determined
 
 pub blank_thread_has_a_token :
-    Allows blank_thread_lem.Post tt (record { place = At.Idle; token = true; holding = Holds.Nothing }) → ⊥
+    Allows blank_thread.Post tt (record { place = At.Idle; token = true; holding = Holds.Nothing }) → ⊥
 blank_thread_has_a_token = apart_in (λ t. t.token) (λ e. false≢true (sym e))
 
-pub blank_thread_holds_read : Allows blank_thread_lem.Post tt (thread_of At.Idle Holds.Read) → ⊥
+pub blank_thread_holds_read : Allows blank_thread.Post tt (thread_of At.Idle Holds.Read) → ⊥
 blank_thread_holds_read = apart_in (λ t. t.holding) (λ e. clash (cc))
 
-pub good_count_determined : (count : ℕ) → Determined (Allows good_count_lem.Post (count & tt))
+pub good_count_determined : (count : ℕ) → Determined (Allows good_count.Post (count & tt))
 good_count_determined count = determined
 
-pub good_count_of_none : Allows good_count_lem.Post (0 & tt) true → ⊥
+pub good_count_of_none : Allows good_count.Post (0 & tt) true → ⊥
 good_count_of_none e = false≢true (sym e)
 
-pub good_count_below_the_limit_alone : Allows good_count_lem.Post (8 & tt) false → ⊥
+pub good_count_below_the_limit_alone : Allows good_count.Post (8 & tt) false → ⊥
 good_count_below_the_limit_alone = false≢true
 
-pub good_count_past_the_limit : Allows good_count_lem.Post (9 & tt) true → ⊥
+pub good_count_past_the_limit : Allows good_count.Post (9 & tt) true → ⊥
 good_count_past_the_limit e = false≢true (sym e)
 
 pub fresh_determined : (count : ℕ) → Determined (Allows fresh.Post (count & tt))
@@ -246,13 +247,13 @@ refused_by_another = apart_in (λ o. o.reply) (λ e. clash (cc))
 
 -- ── node ──
 
-pub blank_node_determined : Determined (Allows blank_node_lem.Post tt)
+pub blank_node_determined : Determined (Allows blank_node_fn.Post tt)
 blank_node_determined = determined
 
-pub blank_node_is_completed : Allows blank_node_lem.Post tt (with_completed blank_node) → ⊥
+pub blank_node_is_completed : Allows blank_node_fn.Post tt (with_completed blank_node) → ⊥
 blank_node_is_completed = apart_in (λ n. n.completed) (λ e. false≢true (sym e))
 
-pub blank_node_is_its_own_tail : Allows blank_node_lem.Post tt (with_tail blank_node (node 1)) → ⊥
+pub blank_node_is_its_own_tail : Allows blank_node_fn.Post tt (with_tail blank_node (node 1)) → ⊥
 blank_node_is_its_own_tail = apart_by (λ n. n.tail.0) refl
 
 pub filled_determined : (me : ThreadNumber) (writer : Bool) (seen : Word)
@@ -274,23 +275,23 @@ filled_keeps_the_flags = apart_by (λ n. n.next.0) refl
 pub filled_as_a_reader : Allows filled.Post (thread 0 & true & word 17 & tt) (filled_of (thread 0) false (word 17)) → ⊥
 filled_as_a_reader = apart_in (λ n. n.writer) false≢true
 
-pub with_next_determined : (n : Node) (next : Word) → Determined (Allows with_next_lem.Post (n & next & tt))
+pub with_next_determined : (n : Node) (next : Word) → Determined (Allows with_next_fn.Post (n & next & tt))
 with_next_determined n next = determined
 
-pub with_next_stores_nothing : Allows with_next_lem.Post (blank_node & word 32 & tt) blank_node → ⊥
+pub with_next_stores_nothing : Allows with_next_fn.Post (blank_node & word 32 & tt) blank_node → ⊥
 with_next_stores_nothing = apart_by (λ n. n.next.0) refl
 
 pub with_next_forgets_completed :
-    Allows with_next_lem.Post (with_completed blank_node & word 32 & tt) (with_next blank_node (word 32)) → ⊥
+    Allows with_next_fn.Post (with_completed blank_node & word 32 & tt) (with_next blank_node (word 32)) → ⊥
 with_next_forgets_completed = apart_in (λ n. n.completed) false≢true
 
-pub with_prev_determined : (n : Node) (prev : NodeNumber) → Determined (Allows with_prev_lem.Post (n & prev & tt))
+pub with_prev_determined : (n : Node) (prev : NodeNumber) → Determined (Allows with_prev_fn.Post (n & prev & tt))
 with_prev_determined n prev = determined
 
-pub with_prev_stores_nothing : Allows with_prev_lem.Post (blank_node & node 2 & tt) blank_node → ⊥
+pub with_prev_stores_nothing : Allows with_prev_fn.Post (blank_node & node 2 & tt) blank_node → ⊥
 with_prev_stores_nothing = apart_by (λ n. n.prev.0) refl
 
-pub with_prev_stores_the_tail : Allows with_prev_lem.Post (blank_node & node 2 & tt) (with_tail blank_node (node 2)) → ⊥
+pub with_prev_stores_the_tail : Allows with_prev_fn.Post (blank_node & node 2 & tt) (with_tail blank_node (node 2)) → ⊥
 with_prev_stores_the_tail = apart_by (λ n. n.tail.0) refl
 
 pub with_tail_determined : (n : Node) (tail : NodeNumber) → Determined (Allows with_tail.Post (n & tail & tt))
@@ -302,14 +303,14 @@ with_tail_stores_nothing = apart_by (λ n. n.tail.0) refl
 pub with_tail_stores_the_prev : Allows with_tail.Post (blank_node & node 2 & tt) (with_prev blank_node (node 2)) → ⊥
 with_tail_stores_the_prev = apart_by (λ n. n.prev.0) refl
 
-pub with_completed_determined : (n : Node) → Determined (Allows with_completed_lem.Post (n & tt))
+pub with_completed_determined : (n : Node) → Determined (Allows with_completed_fn.Post (n & tt))
 with_completed_determined n = determined
 
-pub with_completed_leaves_it_clear : Allows with_completed_lem.Post (blank_node & tt) blank_node → ⊥
+pub with_completed_leaves_it_clear : Allows with_completed_fn.Post (blank_node & tt) blank_node → ⊥
 with_completed_leaves_it_clear = apart_in (λ n. n.completed) false≢true
 
 pub with_completed_takes_the_links_off :
-    Allows with_completed_lem.Post (with_prev blank_node (node 2) & tt) (with_completed blank_node) → ⊥
+    Allows with_completed_fn.Post (with_prev blank_node (node 2) & tt) (with_completed blank_node) → ⊥
 with_completed_takes_the_links_off = apart_by (λ n. n.prev.0) refl
 
 -- ── view: where a call goes on ──
@@ -341,13 +342,13 @@ granted_read_says_yes = apart_in (λ n. n.answer) (λ e. clash (cc))
 pub granted_try_is_done : Allows granted_next.Post (false & tt) (end Done) → ⊥
 granted_try_is_done = apart_in (λ n. n.answer) (λ e. clash (cc))
 
-pub after_queue_determined : (who : Who) → Determined (Allows after_queue_lem.Post (who & tt))
+pub after_queue_determined : (who : Who) → Determined (Allows after_queue.Post (who & tt))
 after_queue_determined who = determined
 
-pub after_queue_a_waiter_is_done : Allows after_queue_lem.Post (Waiter true & tt) (end Done) → ⊥
+pub after_queue_a_waiter_is_done : Allows after_queue.Post (Waiter true & tt) (end Done) → ⊥
 after_queue_a_waiter_is_done = apart_in (λ n. n.place) (λ e. clash (cc))
 
-pub after_queue_a_leaver_waits : Allows after_queue_lem.Post (Leaver & tt) (at (At.CompletedLoad false)) → ⊥
+pub after_queue_a_leaver_waits : Allows after_queue.Post (Leaver & tt) (at (At.CompletedLoad false)) → ⊥
 after_queue_a_leaver_waits = apart_in (λ n. n.place) (λ e. clash (cc))
 
 pub walk_from_determined : (walk : Walk) (seen : Word) → Determined (Allows walk_from.Post (walk & seen & tt))
@@ -390,16 +391,16 @@ pub stays_answers_went : Allows stays_put.Post (seeing 17 & end Done & tt) (stay
 stays_answers_went = apart_in answer_after (λ e. clash (cc))
 
 pub writes_determined : (v : View) (w : Word) (h : Holding) (next : Next)
-    → Determined (Allows writes_word_lem.Post (v & w & h & next & tt))
+    → Determined (Allows writes_word.Post (v & w & h & next & tt))
 writes_determined v w h next = determined
 
 pub writes_leaves_the_word :
-    Allows writes_word_lem.Post (seeing 0 & word 1 & Holds.Write & end Done & tt)
+    Allows writes_word.Post (seeing 0 & word 1 & Holds.Write & end Done & tt)
     (writes (seeing 0) (word 0) Holds.Write (end Done)) → ⊥
 writes_leaves_the_word = apart_by word_after refl
 
 pub writes_grants_nothing :
-    Allows writes_word_lem.Post (seeing 0 & word 1 & Holds.Write & end Done & tt)
+    Allows writes_word.Post (seeing 0 & word 1 & Holds.Write & end Done & tt)
     (writes (seeing 0) (word 1) Holds.Nothing (end Done)) → ⊥
 writes_grants_nothing = apart_in holding_after (λ e. clash (cc))
 
@@ -407,7 +408,8 @@ pub links_determined : (v : View) (n : Node) (next : Next) → Determined (Allow
 links_determined v n next = determined
 
 pub links_stores_nothing :
-    Allows links_node.Post (seeing 34 & with_tail blank_node (node 1) & end Done & tt) (stays (seeing 34) (end Done)) → ⊥
+    Allows links_node.Post (seeing 34 & with_tail blank_node (node 1) & end Done & tt)
+    (stays (seeing 34) (end Done)) → ⊥
 links_stores_nothing = apart_by tail_after refl
 
 pub links_clears_the_word :

@@ -14,22 +14,22 @@ use Rattle.word.specs.declared.number.ThreadNumber.{ThreadNumber}
 use Rattle.word.specs.declared.rules.ReadLocked.TheVariants as ReadLocks
 use Rattle.word.specs.declared.rules.ReadUnlocked.TheVariants as ReadUnlocks
 use Rattle.word.specs.declared.rules.WriteLocked.TheVariants as WriteLocks
-use Rattle.word.proofs.flags.Word.clear_downgraded.Reads as clear_downgraded_lem
-use Rattle.word.proofs.flags.Word.clear_locked.Reads as clear_locked_lem
-use Rattle.word.proofs.flags.Word.clear_queue_locked.Reads as clear_queue_locked_lem
+use Rattle.word.proofs.flags.Word.clear_downgraded.Reads as clear_downgraded
+use Rattle.word.proofs.flags.Word.clear_locked.Reads as clear_locked
+use Rattle.word.proofs.flags.Word.clear_queue_locked.Reads as clear_queue_locked
 use Rattle.word.proofs.flags.Word.downgraded.Reads as downgraded
 use Rattle.word.proofs.flags.Word.locked.Reads as locked
-use Rattle.word.proofs.flags.Word.queue_locked.Reads as queue_locked_lem
+use Rattle.word.proofs.flags.Word.queue_locked.Reads as queue_locked
 use Rattle.word.proofs.flags.Word.queued.Reads as queued
 use Rattle.word.proofs.flags.Word.read_lock.Reads as read_lock
 use Rattle.word.proofs.flags.Word.read_unlock.Reads as read_unlock
 use Rattle.word.proofs.flags.Word.registered.Reads as registered
-use Rattle.word.proofs.flags.Word.set_downgraded.Reads as set_downgraded_lem
-use Rattle.word.proofs.flags.Word.set_locked.Reads as set_locked_lem
-use Rattle.word.proofs.flags.Word.set_queue_locked.Reads as set_queue_locked_lem
+use Rattle.word.proofs.flags.Word.set_downgraded.Reads as set_downgraded
+use Rattle.word.proofs.flags.Word.set_locked.Reads as set_locked
+use Rattle.word.proofs.flags.Word.set_queue_locked.Reads as set_queue_locked
 use Rattle.word.proofs.flags.Word.taken.Reads as taken
-use Rattle.word.proofs.flags.Word.to_node.Reads as to_node_lem
-use Rattle.word.proofs.flags.Word.without_flags.Reads as without_flags_lem
+use Rattle.word.proofs.flags.Word.to_node.Reads as to_node
+use Rattle.word.proofs.flags.Word.without_flags.Reads as without_flags
 use Rattle.word.proofs.flags.Word.write_lock.Reads as write_lock
 use Rattle.word.proofs.number.NodeNumber.is_none.Reads as is_none
 use Rattle.word.proofs.number.NodeNumber.owner.Reads as owner
@@ -99,13 +99,13 @@ queued_read_off_locked e = false≢true (sym e)
 pub queued_missed_with_the_queue_locked : Allows queued.Post (word 22 & tt) false → ⊥
 queued_missed_with_the_queue_locked = false≢true
 
-pub queue_locked_determined : (w : Word) → Determined (Allows queue_locked_lem.Post (w & tt))
+pub queue_locked_determined : (w : Word) → Determined (Allows queue_locked.Post (w & tt))
 queue_locked_determined w = determined
 
-pub queue_locked_read_off_queued : Allows queue_locked_lem.Post (word 18 & tt) true → ⊥
+pub queue_locked_read_off_queued : Allows queue_locked.Post (word 18 & tt) true → ⊥
 queue_locked_read_off_queued e = false≢true (sym e)
 
-pub queue_locked_missed : Allows queue_locked_lem.Post (word 22 & tt) false → ⊥
+pub queue_locked_missed : Allows queue_locked.Post (word 22 & tt) false → ⊥
 queue_locked_missed = false≢true
 
 pub downgraded_determined : (w : Word) → Determined (Allows downgraded.Post (w & tt))
@@ -117,76 +117,76 @@ downgraded_read_off_the_number e = false≢true (sym e)
 pub downgraded_missed : Allows downgraded.Post (word 31 & tt) false → ⊥
 downgraded_missed = false≢true
 
-pub set_locked_determined : (w : Word) → Determined (Allows set_locked_lem.Post (w & tt))
+pub set_locked_determined : (w : Word) → Determined (Allows set_locked.Post (w & tt))
 set_locked_determined w = determined
 
-pub set_locked_adds_again : Allows set_locked_lem.Post (word 17 & tt) (word 18) → ⊥
+pub set_locked_adds_again : Allows set_locked.Post (word 17 & tt) (word 18) → ⊥
 set_locked_adds_again = apart_by word_number refl
 
-pub set_locked_leaves_the_word : Allows set_locked_lem.Post (word 18 & tt) (word 18) → ⊥
+pub set_locked_leaves_the_word : Allows set_locked.Post (word 18 & tt) (word 18) → ⊥
 set_locked_leaves_the_word = apart_by word_number refl
 
-pub clear_locked_determined : (w : Word) → Determined (Allows clear_locked_lem.Post (w & tt))
+pub clear_locked_determined : (w : Word) → Determined (Allows clear_locked.Post (w & tt))
 clear_locked_determined w = determined
 
-pub clear_locked_takes_off_a_clear_flag : Allows clear_locked_lem.Post (word 16 & tt) (word 15) → ⊥
+pub clear_locked_takes_off_a_clear_flag : Allows clear_locked.Post (word 16 & tt) (word 15) → ⊥
 clear_locked_takes_off_a_clear_flag = apart_by word_number refl
 
-pub clear_locked_clears_queued : Allows clear_locked_lem.Post (word 19 & tt) (word 17) → ⊥
+pub clear_locked_clears_queued : Allows clear_locked.Post (word 19 & tt) (word 17) → ⊥
 clear_locked_clears_queued = apart_by word_number refl
 
-pub set_queue_locked_determined : (w : Word) → Determined (Allows set_queue_locked_lem.Post (w & tt))
+pub set_queue_locked_determined : (w : Word) → Determined (Allows set_queue_locked.Post (w & tt))
 set_queue_locked_determined w = determined
 
-pub set_queue_locked_adds_again : Allows set_queue_locked_lem.Post (word 22 & tt) (word 26) → ⊥
+pub set_queue_locked_adds_again : Allows set_queue_locked.Post (word 22 & tt) (word 26) → ⊥
 set_queue_locked_adds_again = apart_by word_number refl
 
-pub set_queue_locked_sets_downgraded : Allows set_queue_locked_lem.Post (word 18 & tt) (word 26) → ⊥
+pub set_queue_locked_sets_downgraded : Allows set_queue_locked.Post (word 18 & tt) (word 26) → ⊥
 set_queue_locked_sets_downgraded = apart_by word_number refl
 
-pub clear_queue_locked_determined : (w : Word) → Determined (Allows clear_queue_locked_lem.Post (w & tt))
+pub clear_queue_locked_determined : (w : Word) → Determined (Allows clear_queue_locked.Post (w & tt))
 clear_queue_locked_determined w = determined
 
-pub clear_queue_locked_takes_off_a_clear_flag : Allows clear_queue_locked_lem.Post (word 18 & tt) (word 14) → ⊥
+pub clear_queue_locked_takes_off_a_clear_flag : Allows clear_queue_locked.Post (word 18 & tt) (word 14) → ⊥
 clear_queue_locked_takes_off_a_clear_flag = apart_by word_number refl
 
-pub clear_queue_locked_leaves_it : Allows clear_queue_locked_lem.Post (word 22 & tt) (word 22) → ⊥
+pub clear_queue_locked_leaves_it : Allows clear_queue_locked.Post (word 22 & tt) (word 22) → ⊥
 clear_queue_locked_leaves_it = apart_by word_number refl
 
-pub set_downgraded_determined : (w : Word) → Determined (Allows set_downgraded_lem.Post (w & tt))
+pub set_downgraded_determined : (w : Word) → Determined (Allows set_downgraded.Post (w & tt))
 set_downgraded_determined w = determined
 
-pub set_downgraded_adds_again : Allows set_downgraded_lem.Post (word 31 & tt) (word 39) → ⊥
+pub set_downgraded_adds_again : Allows set_downgraded.Post (word 31 & tt) (word 39) → ⊥
 set_downgraded_adds_again = apart_by word_number refl
 
-pub set_downgraded_adds_to_the_number : Allows set_downgraded_lem.Post (word 23 & tt) (word 39) → ⊥
+pub set_downgraded_adds_to_the_number : Allows set_downgraded.Post (word 23 & tt) (word 39) → ⊥
 set_downgraded_adds_to_the_number = apart_by word_number refl
 
-pub clear_downgraded_determined : (w : Word) → Determined (Allows clear_downgraded_lem.Post (w & tt))
+pub clear_downgraded_determined : (w : Word) → Determined (Allows clear_downgraded.Post (w & tt))
 clear_downgraded_determined w = determined
 
-pub clear_downgraded_takes_off_a_clear_flag : Allows clear_downgraded_lem.Post (word 23 & tt) (word 15) → ⊥
+pub clear_downgraded_takes_off_a_clear_flag : Allows clear_downgraded.Post (word 23 & tt) (word 15) → ⊥
 clear_downgraded_takes_off_a_clear_flag = apart_by word_number refl
 
-pub clear_downgraded_leaves_it : Allows clear_downgraded_lem.Post (word 31 & tt) (word 31) → ⊥
+pub clear_downgraded_leaves_it : Allows clear_downgraded.Post (word 31 & tt) (word 31) → ⊥
 clear_downgraded_leaves_it = apart_by word_number refl
 
-pub without_flags_determined : (w : Word) → Determined (Allows without_flags_lem.Post (w & tt))
+pub without_flags_determined : (w : Word) → Determined (Allows without_flags.Post (w & tt))
 without_flags_determined w = determined
 
-pub without_flags_keeps_the_flags_alone : Allows without_flags_lem.Post (word 31 & tt) (word 15) → ⊥
+pub without_flags_keeps_the_flags_alone : Allows without_flags.Post (word 31 & tt) (word 15) → ⊥
 without_flags_keeps_the_flags_alone = apart_by word_number refl
 
-pub without_flags_rounds_up : Allows without_flags_lem.Post (word 15 & tt) (word 16) → ⊥
+pub without_flags_rounds_up : Allows without_flags.Post (word 15 & tt) (word 16) → ⊥
 without_flags_rounds_up = apart_by word_number refl
 
-pub to_node_determined : (w : Word) → Determined (Allows to_node_lem.Post (w & tt))
+pub to_node_determined : (w : Word) → Determined (Allows to_node.Post (w & tt))
 to_node_determined w = determined
 
-pub to_node_rounds_up : Allows to_node_lem.Post (word 31 & tt) (node 2) → ⊥
+pub to_node_rounds_up : Allows to_node.Post (word 31 & tt) (node 2) → ⊥
 to_node_rounds_up = apart_by node_number refl
 
-pub to_node_one_less : Allows to_node_lem.Post (word 18 & tt) (node 0) → ⊥
+pub to_node_one_less : Allows to_node.Post (word 18 & tt) (node 0) → ⊥
 to_node_one_less = apart_by node_number refl
 
 -- ── rules ──
