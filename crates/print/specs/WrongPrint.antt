@@ -76,10 +76,10 @@ on_lines at m (code ∷ t ∷ s) =
     let o = event_of m code (thread t) in
     on_by at (thread t) o.reply o.machine (on_lines (at + 1) o.machine s)
 
-abbrev goes_on_lem : Print
-goes_on_lem s = on_lines 0 (fresh_of (threads_in s)).machine (drop header_length s)
+abbrev goes_on : Print
+goes_on s = on_lines 0 (fresh_of (threads_in s)).machine (drop header_length s)
 
-pub goes_on_refuted : PrintsWhole goes_on_lem → ⊥
+pub goes_on_refuted : PrintsWhole goes_on → ⊥
 unfolding checked_of replay_of event_of access_of
 goes_on_refuted holds = let three : ◌≡◌ {A = ℕ} 3 2 = holds.count again in omega arith
 

@@ -193,8 +193,8 @@ unfolding ran_by advance_of access_of marked_of which to_set to_tail
 registers_unfilled_refuted holds = false≢true (ap is_fine (holds 2 registered).fine)
 
 -- 'Reading prev after completing a node': here a waker stands on the node that it has completed, to load its prev
-abbrev reads_prev_after_completing_lem : Program
-reads_prev_after_completing_lem =
+abbrev reads_prev_after_completing : Program
+reads_prev_after_completing =
     changing (At.WakeStore Leaver none none)
     (from (λ v c. completes v c.node c.woken (back c.woken (next_of c))))
   where
@@ -207,7 +207,7 @@ listed_length lost = 0
 listed_length (listed ns) = length ns
 
 -- the node is on its list still
-pub reads_prev_after_completing_moves_refuted : ListsMove reads_prev_after_completing_lem → ⊥
+pub reads_prev_after_completing_moves_refuted : ListsMove reads_prev_after_completing → ⊥
 unfolding ran_by advance_of access_of marked_of which stand_of queue_effect back_from
 reads_prev_after_completing_moves_refuted holds =
     let move = holds 2 (unlocking 6) (step 0) in
@@ -292,18 +292,18 @@ unfolding ran_by advance_of access_of marked_of which
 registers_unfilled_eight_refuted holds = holds 2 (unlocking 4) (step 0) refl
 
 -- a node that has been completed is touched
-pub reads_prev_after_completing_touches_refuted : TouchedAlive reads_prev_after_completing_lem → ⊥
+pub reads_prev_after_completing_touches_refuted : TouchedAlive reads_prev_after_completing → ⊥
 unfolding ran_by advance_of access_of marked_of which
 reads_prev_after_completing_touches_refuted holds = ⊎_elim own waits (holds 2 (unlocking 7) (thread 0)).accessed
   where
     own : node 2 ≡ node 1 → ⊥
     own e = let z : ◌≡◌ {A = ℕ} 2 1 = ap (λ (k : NodeNumber). k.0) e in omega (arith, z)
 
-    waits : Waits (reached_by reads_prev_after_completing_lem 2 (unlocking 7)) (node 2) → ⊥
+    waits : Waits (reached_by reads_prev_after_completing 2 (unlocking 7)) (node 2) → ⊥
     waits w =
         let z : w.0 ≡ 1 = let y : 2 ≡ w.0 + 1 = ap (λ (k : NodeNumber). k.0) w.1 in omega (arith, y) in
         false≢true
-        (sym (subst (λ u. (node_at (reached_by reads_prev_after_completing_lem 2 (unlocking 7)) u).completed ≡ false) z
+        (sym (subst (λ u. (node_at (reached_by reads_prev_after_completing 2 (unlocking 7)) u).completed ≡ false) z
         w.2.uncompleted))
 
 -- ── replays ──
@@ -324,30 +324,30 @@ file_stops_at_eight_refuted holds = (holds []).not_eight refl
 -- ── each call does its work ──
 
 -- 'read_unlock: load, then weak compare': here it is done at its load, and nothing is released
-abbrev read_unlock_done_at_its_load_lem : Program
-read_unlock_done_at_its_load_lem = changing At.ReadUnlockLoad (λ v s. pick (queued v.word) s (stays v (end Done)))
+abbrev read_unlock_done_at_its_load : Program
+read_unlock_done_at_its_load = changing At.ReadUnlockLoad (λ v s. pick (queued v.word) s (stays v (end Done)))
 
 -- try_read, granted; then read_unlock
-pub read_unlock_done_at_its_load_refuted : EachCallDoesItsWork read_unlock_done_at_its_load_lem → ⊥
+pub read_unlock_done_at_its_load_refuted : EachCallDoesItsWork read_unlock_done_at_its_load → ⊥
 unfolding log_of ran_by advance_of access_of marked_of which lock_effect stand_of
 read_unlock_done_at_its_load_refuted holds =
     false≢true (ap (λ l. eqb (length l) 1)
     (holds 1 (begin 2 0 ∷ step 0 ∷ step 0 ∷ begin 4 0 ∷ step 0 ∷ []) (thread 0)).ended.0.1)
 
 -- 'one that finishes a call at its first step and idles later'
-abbrev finishes_at_the_first_step_lem : Program
-finishes_at_the_first_step_lem = program_of (λ v p. stays v (end Done))
+abbrev finishes_at_the_first_step : Program
+finishes_at_the_first_step = program_of (λ v p. stays v (end Done))
 
-pub finishes_at_the_first_step_refuted : EachCallDoesItsWork finishes_at_the_first_step_lem → ⊥
+pub finishes_at_the_first_step_refuted : EachCallDoesItsWork finishes_at_the_first_step → ⊥
 unfolding log_of ran_by access_of marked_of lock_effect stand_of
 finishes_at_the_first_step_refuted holds =
     false≢true (ap (λ l. eqb (length l) 1) (holds 1 (begin 0 0 ∷ step 0 ∷ []) (thread 0)).ended.0.1)
 
 -- 'A try that is granted ends with yes, any other with no': here try_write begins as write does, and blocks
-abbrev try_write_blocks_lem : Program
-try_write_blocks_lem m code t = event_of m (pick (eqb code 3) 1 code) t
+abbrev try_write_blocks : Program
+try_write_blocks m code t = event_of m (pick (eqb code 3) 1 code) t
 
-pub try_write_blocks_refuted : EachCallDoesItsWork try_write_blocks_lem → ⊥
+pub try_write_blocks_refuted : EachCallDoesItsWork try_write_blocks → ⊥
 unfolding log_of ran_by event_of step_of advance_of access_of marked_of lock_effect stand_of
 try_write_blocks_refuted holds =
     ⊎_elim (λ e. false≢true (sym (ap is_done e.0))) (λ e. false≢true (sym (ap is_done e.0)))
