@@ -55,7 +55,7 @@ use Rattle.state.proofs.node.Node.filled.Reads as filled
 use Rattle.state.proofs.node.Node.with_completed.Reads as with_completed_fn
 use Rattle.state.proofs.node.Node.with_next.Reads as with_next_fn
 use Rattle.state.proofs.node.Node.with_prev.Reads as with_prev_fn
-use Rattle.state.proofs.node.Node.with_tail.Reads as with_tail
+use Rattle.state.proofs.node.Node.with_tail.Reads as with_tail_fn
 use Rattle.state.proofs.view.Next.after_queue.Reads as after_queue
 use Rattle.state.proofs.view.Next.at.Reads as at_place
 use Rattle.state.proofs.view.Next.end.Reads as end_answer
@@ -294,13 +294,13 @@ with_prev_stores_nothing = apart_by (λ n. n.prev.0) refl
 pub with_prev_stores_the_tail : Allows with_prev_fn.Post (blank_node & node 2 & tt) (with_tail blank_node (node 2)) → ⊥
 with_prev_stores_the_tail = apart_by (λ n. n.tail.0) refl
 
-pub with_tail_determined : (n : Node) (tail : NodeNumber) → Determined (Allows with_tail.Post (n & tail & tt))
+pub with_tail_determined : (n : Node) (tail : NodeNumber) → Determined (Allows with_tail_fn.Post (n & tail & tt))
 with_tail_determined n tail = determined
 
-pub with_tail_stores_nothing : Allows with_tail.Post (blank_node & node 2 & tt) blank_node → ⊥
+pub with_tail_stores_nothing : Allows with_tail_fn.Post (blank_node & node 2 & tt) blank_node → ⊥
 with_tail_stores_nothing = apart_by (λ n. n.tail.0) refl
 
-pub with_tail_stores_the_prev : Allows with_tail.Post (blank_node & node 2 & tt) (with_prev blank_node (node 2)) → ⊥
+pub with_tail_stores_the_prev : Allows with_tail_fn.Post (blank_node & node 2 & tt) (with_prev blank_node (node 2)) → ⊥
 with_tail_stores_the_prev = apart_by (λ n. n.prev.0) refl
 
 pub with_completed_determined : (n : Node) → Determined (Allows with_completed_fn.Post (n & tt))

@@ -8,7 +8,7 @@ mod carried;
 mod line;
 mod put;
 
-ghost use Rattle.std.specs.Prelude.{◌≤◌, length};
+ghost use Rattle.std.specs.Prelude.{◌≡◌, ◌≤◌, length, take};
 
 use line::TRY;
 use lock::event::event;
@@ -32,7 +32,8 @@ const SPACE: usize = 65536;
 const FULL: usize = 60000;
 
 fn within(out: &[u8], at: usize) -> usize
-    ensures { result ≤ length out.now }
+    ensures low { result ≤ length out.now }
+    ensures prefix { result ≡ length (take result out.now) }
 {
     if at < out.len() {
         return at;
