@@ -40,7 +40,8 @@ module _ (traced : Bool) (m : Machine) (s : List ℕ) where
       → more ≡ length (bytes_of (end_lines traced c.machine))
       → record { replayed = run_by (Over stop) c s; bytes = bytes + more } ≡ ran_printed traced m s
   run_printed c stop bytes more e p q =
-      let replayed : run_by (Over stop) c s ≡ file_ran_of (replay_of m s) = e ∙ ap file_ran_of (after_zero (replay_of m s)) in
+      let replayed : run_by (Over stop) c s ≡ file_ran_of (replay_of m s) =
+          e ∙ ap file_ran_of (after_zero (replay_of m s)) in
       let last = q ∙ ap (λ (r : FileReplayed). ends r.machine) replayed in
       let lines = bytes_of (event_lines (line_for traced) 0 m s) in
       let all = length-append lines (bytes_of (end_lines traced (replay_of m s).machine)) in

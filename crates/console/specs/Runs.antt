@@ -37,7 +37,8 @@ end_lines false m = []
 
 -- of a run of events on a machine
 abbrev pub ran_bytes : Bool → Machine → List ℕ → List ℕ
-ran_bytes traced m s = bytes_of (event_lines (line_for traced) 0 m s) ++ bytes_of (end_lines traced (replay_of m s).machine)
+ran_bytes traced m s =
+    bytes_of (event_lines (line_for traced) 0 m s) ++ bytes_of (end_lines traced (replay_of m s).machine)
 
 abbrev pub ran_printed : Bool → Machine → List ℕ → Printed
 ran_printed traced m s = printed_of (file_ran_of (replay_of m s)) (ran_bytes traced m s)

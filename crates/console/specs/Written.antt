@@ -50,7 +50,8 @@ module _ (line : Line) where
 
 -- a refused file's line
 pub refused_written :
-    (refusal : FileRefusal) → line_written (line_of (refused_text (file_number refusal))) ≡ length (refused_bytes refusal)
+    (refusal : FileRefusal)
+        → line_written (line_of (refused_text (file_number refusal))) ≡ length (refused_bytes refusal)
 unfolding bytes_of
 refused_written refusal =
     let text = refused_text (file_number refusal) in
