@@ -50,14 +50,20 @@ first_not_aside WriteUnlock = refl
 first_not_aside Downgrade = refl
 
 first_allowed : (call : Call) (h : Holding) → may_begin call h ≡ true → FirstAllowed call h
-first_allowed ToRead h e = record { off = off_queue_lem _ _ _ _; allowed = nothing_held h e; needs = refl; leaves = refl }
-first_allowed ToWrite h e = record { off = off_queue_lem _ _ _ _; allowed = nothing_held h e; needs = refl; leaves = refl }
-first_allowed TryRead h e = record { off = off_queue_lem _ _ _ _; allowed = nothing_held h e; needs = refl; leaves = refl }
-first_allowed TryWrite h e = record { off = off_queue_lem _ _ _ _; allowed = nothing_held h e; needs = refl; leaves = refl }
-first_allowed ReadUnlock h e = record { off = off_queue_lem _ _ _ _; allowed = read_held h e; needs = refl; leaves = refl }
+first_allowed ToRead h e =
+    record { off = off_queue_lem _ _ _ _; allowed = nothing_held h e; needs = refl; leaves = refl }
+first_allowed ToWrite h e =
+    record { off = off_queue_lem _ _ _ _; allowed = nothing_held h e; needs = refl; leaves = refl }
+first_allowed TryRead h e =
+    record { off = off_queue_lem _ _ _ _; allowed = nothing_held h e; needs = refl; leaves = refl }
+first_allowed TryWrite h e =
+    record { off = off_queue_lem _ _ _ _; allowed = nothing_held h e; needs = refl; leaves = refl }
+first_allowed ReadUnlock h e =
+    record { off = off_queue_lem _ _ _ _; allowed = read_held h e; needs = refl; leaves = refl }
 first_allowed WriteUnlock h e =
     record { off = off_queue_lem _ _ _ _; allowed = write_held h e; needs = refl; leaves = refl }
-first_allowed Downgrade h e = record { off = off_queue_lem _ _ _ _; allowed = write_held h e; needs = refl; leaves = refl }
+first_allowed Downgrade h e =
+    record { off = off_queue_lem _ _ _ _; allowed = write_held h e; needs = refl; leaves = refl }
 
 pub kept_begin : (st : Setting) → (mine st).place ≡ Idle → (call : Call) → may_begin call (mine st).holding ≡ true
     → Inv st.n (gone_to st (first_place call) st.s.nd) st.g

@@ -39,7 +39,8 @@ use Rattle.invariant.proofs.Take.{takes_whole}
 use Rattle.invariant.specs.Words.{word_is, readers_word}
 
 -- a thread that downgrades, q: whether it needs the queue to stay
-module _ (st : Setting) (needs_queue : Bool) (is : about (mine st).place ≡ off_queue writes false needs_queue false) where
+module _ (st : Setting) (needs_queue : Bool)
+    (is : about (mine st).place ≡ off_queue writes false needs_queue false) where
   open st use {n, s, g, i, me, tin}
 
   down : RoleDown s g me.0

@@ -41,7 +41,8 @@ use Rattle.lock.specs.Code.{code_of}
 use Rattle.lock.specs.Event.{event_by, event_of}
 use Rattle.lock.specs.Landed.{woken_of, stored_of, landed_of}
 use Rattle.lock.specs.Laws.{slot_at, good_count_lem}
-use Rattle.lock.specs.Step.{halted_of, failing_of, marked_of, mark_by, mark_of, view_at, touching_by, step_by, step_at, step_of}
+use Rattle.lock.specs.Step.{halted_of, failing_of, marked_of, mark_by, mark_of, view_at, touching_by, step_by, step_at}
+use Rattle.lock.specs.Step.{step_of}
 use Rattle.lock.specs.declared.code.Call.{Call}
 use Rattle.lock.specs.declared.code.Code.{Code}
 use Rattle.lock.specs.declared.code.Code.TheVariants.{Begin, Step, Fail, Unknown}

@@ -72,7 +72,8 @@ module _ (st : Setting) (k : ℕ) where
       again : Kept st k (try_read_judged (look_at st k) blocking s.word)
       again = judged here refl refl blocking (read_lock_of s.word)
 
-      by : s.word ≡ seen → (r : ReadLocked) → read_lock_of seen ≡ r → Kept st k (try_read_cas_by (look_at st k) blocking r)
+      by : s.word ≡ seen → (r : ReadLocked) → read_lock_of seen ≡ r
+          → Kept st k (try_read_cas_by (look_at st k) blocking r)
       by same (To to) e =
           at_end_lem here refl blocking to _
           (ends_call st _ to _

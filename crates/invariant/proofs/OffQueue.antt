@@ -29,7 +29,8 @@ pub record OffQueue (a : About) : Type 0 where
   pub asleep : a.asleep ≡ false
   pub ok : a.ok ≡ true
 
-pub off_queue_lem : (may : May) (leaves needs_queue contends : Bool) → OffQueue (off_queue may leaves needs_queue contends)
+pub off_queue_lem : (may : May) (leaves needs_queue contends : Bool)
+    → OffQueue (off_queue may leaves needs_queue contends)
 off_queue_lem may leaves needs_queue contends =
     record { role = refl; owner = refl; reader = refl; registered = refl; asleep = refl; ok = refl }
 

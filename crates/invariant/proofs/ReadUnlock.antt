@@ -14,7 +14,8 @@ use Rattle.state.specs.Holding.{reads_of, released_read}
 use Rattle.state.specs.declared.place.Place.{Place}
 use Rattle.state.specs.declared.place.Place.TheVariants.{WalkTail, ReadUnlockLoad, ReadUnlockCas}
 use Rattle.state.specs.declared.place.Walk.TheVariants.{ReadUnlock}
-use Rattle.release.specs.ReadUnlock.{read_unlock_by, read_unlock_judged, read_unlock_load_of, read_unlock_cas_by, read_unlock_cas_of}
+use Rattle.release.specs.ReadUnlock.{read_unlock_by, read_unlock_judged, read_unlock_load_of, read_unlock_cas_by}
+use Rattle.release.specs.ReadUnlock.{read_unlock_cas_of}
 use Rattle.queue.specs.Tests.{never}
 use Rattle.queue.specs.Sums.{sum_le}
 use Rattle.queue.specs.Roles.{walk, looks}
@@ -174,7 +175,8 @@ module _ (st : Setting) (k : ℕ) {p : Place} (here : (mine st).place ≡ p)
 
       counts : (r v l : ℕ) → r + 1 ≡ readers n s → v ≡ 0 → l ≡ 0 → (m : ℕ) → readers n s - 1 ≡ m
           → Unqueued (fewer s.word) r v l
-      counts r v l er ev el zero e = empty ((made 0 e).0 refl) (record { reads = omega arith; writes = ev; leaves = el })
+      counts r v l er ev el zero e =
+          empty ((made 0 e).0 refl) (record { reads = omega arith; writes = ev; leaves = el })
       counts r v l er ev el (suc m) e =
           let z : r ≡ suc m = omega arith in
           read (rw z ((made (suc m) e).1 (omega arith))) (omega arith)

@@ -1,7 +1,8 @@
 -- The machine's arrays as functions: a store in an array is an update of its function, and what is stored of a step's
 -- change is the change. One bridge, for all places.
 -- Assumes nothing.
-use Rattle.std.specs.Prelude.{ℕ, zero, suc, ◌<◌, Bool, true, false, List, ◌⊎◌, ◌≢◌, ◌≡◌, refl, ltb, length, get_or, set, replicate}
+use Rattle.std.specs.Prelude.{ℕ, zero, suc, ◌<◌, Bool, true, false, List, ◌⊎◌, ◌≢◌, ◌≡◌, refl, ltb, length, get_or, set}
+use Rattle.std.specs.Prelude.{replicate}
 use Rattle.std.proofs.Common.{inl, inr, sym, ◌∙◌, arith, length-set, get_or-set_same, get_or-set_other, ltb-true}
 use Rattle.std.proofs.Math.Path.{fun_ext}
 use Rattle.word.specs.Base.{pick}

@@ -1,7 +1,7 @@
 -- A step's rule keeps the invariant: what is proved of the rule of each place.
 --     Setting      a step of one thread on a lock that has the invariant
 --     look_at       what the step may look at, in the machine as functions: specs' view of a step
---     after_change  the machine with a change stored: word, one node, the thread's record, the token of the thread woken
+--     after_change  the machine with a change stored: word, one node, the thread's record, the woken thread's token
 --     Kept         the rule does not refuse, the machine after it has the invariant, and the tickets went by its effect
 --     kept_still   so where no node changes; kept_stood, where no ticket moves either
 -- Assumes nothing.
@@ -118,4 +118,5 @@ module _ (st : Setting) (k : ℕ) where
   pub kept_compare : (seen : Word) (a b : Stepped) → (s.word ≡ seen → Kept st k a) → Kept st k b
       → Kept st k (pick (agrees_of (look_at st k) seen) a b)
   kept_compare seen a b agrees fails =
-      pick_both (Kept st k) (agrees_of (look_at st k) seen) a b (λ e. agrees (agreed (look_at st k) seen e)) (λ _. fails)
+      pick_both (Kept st k) (agrees_of (look_at st k) seen) a b (λ e. agrees (agreed (look_at st k) seen e))
+      (λ _. fails)

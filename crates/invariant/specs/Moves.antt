@@ -232,7 +232,8 @@ module _ (me : ThreadNumber) (g : Ghost) where
 
 -- the three places that contend tell nothing of what was done
 pub contend_elsewhere : (writer : Bool) (reloads : ℕ) (seen : Word)
-    → (stand_of (At.ContendLoad writer reloads) ≡ elsewhere) × (stand_of (At.ContendCas writer reloads seen) ≡ elsewhere)
+    → (stand_of (At.ContendLoad writer reloads) ≡ elsewhere)
+    × (stand_of (At.ContendCas writer reloads seen) ≡ elsewhere)
     × (stand_of (At.RegisterCas writer reloads seen) ≡ elsewhere)
 unfolding stand_of
 contend_elsewhere writer reloads seen = (refl, refl, refl)

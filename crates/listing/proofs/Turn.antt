@@ -163,7 +163,8 @@ module _ (m : Machine) (at : NodeNumber) where
     unfolding to_set
     unset h = simp (in_range, h)
 
-    met : is_none (node_by m at).tail ≡ false → to_set (suc left) m at ≡ prepend at (to_tail left m (node_by m at).tail at)
+    met : is_none (node_by m at).tail ≡ false
+        → to_set (suc left) m at ≡ prepend at (to_tail left m (node_by m at).tail at)
     unfolding to_set
     met h = simp (in_range, h)
 

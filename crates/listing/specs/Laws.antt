@@ -10,8 +10,10 @@
 --     waiters_others                   past its length the array has no node
 --     reads_most                       n threads have at most n reads
 -- Assumes nothing.
-use Rattle.std.specs.Prelude.{ℕ, zero, suc, ◌+◌, ◌-◌, ◌≤◌, ◌<◌, true, false, List, [], ◌∷◌, ◌≡◌, refl, ltb, leb, eqb, length, get_or, replicate}
-use Rattle.std.proofs.Common.{sym, ap, ◌∙◌, le_of_suc-le-suc, add-one, arith, ltb-false, leb-true, eqb-true, get_or-append-add}
+use Rattle.std.specs.Prelude.{ℕ, zero, suc, ◌+◌, ◌-◌, ◌≤◌, ◌<◌, true, false, List, [], ◌∷◌, ◌≡◌, refl, ltb, leb, eqb}
+use Rattle.std.specs.Prelude.{length, get_or, replicate}
+use Rattle.std.proofs.Common.{sym, ap, ◌∙◌, le_of_suc-le-suc, add-one, arith, ltb-false, leb-true, eqb-true}
+use Rattle.std.proofs.Common.{get_or-append-add}
 use Rattle.std.proofs.Math.ListN.{get_or-append}
 use Rattle.word.specs.Base.{pick}
 use Rattle.word.specs.Cases.{pick_both, pick_second}
@@ -138,7 +140,8 @@ tail_onto (suc left) m tail at =
 
 -- following next: a trail from the node that it starts from, that ends on the first tail met
 abbrev onward : ℕ → Machine → NodeNumber → Listed
-onward left m at = pick (is_none (node_by m at).tail) (to_set left m (link_of m at)) (to_tail left m (node_by m at).tail at)
+onward left m at =
+    pick (is_none (node_by m at).tail) (to_set left m (link_of m at)) (to_tail left m (node_by m at).tail at)
 
 set_trail : (left : ℕ) (m : Machine) (at : NodeNumber) → Holds (Trail m left at) (to_set left m at)
 unfolding to_set

@@ -13,7 +13,8 @@ use Rattle.acquire.specs.TryWrite.{try_write_or_of}
 use Rattle.acquire.specs.LockContended.{contend_load_of, contend_cas_of, register_cas_of}
 use Rattle.acquire.specs.Wait.{completed_load_of, park_of}
 use Rattle.unlock.specs.AfterWalk.{walk_head_of}
-use Rattle.unlock.specs.UnlockQueue.{queue_cas_of, split_prev_of, split_store_of, split_cas_of, split_restore_of, take_cas_of}
+use Rattle.unlock.specs.UnlockQueue.{queue_cas_of, split_prev_of, split_store_of, split_cas_of, split_restore_of}
+use Rattle.unlock.specs.UnlockQueue.{take_cas_of}
 use Rattle.release.specs.ReadUnlock.{read_unlock_load_of, read_unlock_cas_of, subtract_of}
 use Rattle.release.specs.WriteUnlock.{write_unlock_cas_of}
 use Rattle.release.specs.UnlockContended.{release_cas_of}

@@ -6,7 +6,8 @@ use Rattle.word.specs.Base.{pick}
 use Rattle.word.specs.Number.{node_of}
 use Rattle.word.specs.declared.number.ThreadNumber.{ThreadNumber}
 use Rattle.word.specs.declared.number.NodeNumber.{NodeNumber}
-use Rattle.state.specs.Holding.{reads_of, writes_of, granted_read, granted_write, released_read, released_write, downgraded_to}
+use Rattle.state.specs.Holding.{reads_of, writes_of, granted_read, granted_write, released_read, released_write}
+use Rattle.state.specs.Holding.{downgraded_to}
 use Rattle.state.specs.Machine.{thread_at}
 use Rattle.state.specs.declared.holding.Holding.{Holding}
 use Rattle.state.specs.declared.machine.Machine.{Machine}

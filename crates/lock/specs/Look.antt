@@ -1,8 +1,8 @@
 -- What an event may look at, read off a machine: the count, the word, the thread's record, the one node that its access
 -- lies in, and the writer mark of the tail that a walk found.
---     thread_index, touched_index, tail_index   where these lie; the first, where the machine has no such thread or node
---     look_from, look_of                       what was read, put together; what a machine shows a thread
---     view_in                                 what a step may see of it
+--     thread_index, touched_index, tail_index   where these lie; the first, where there is no such thread or node
+--     look_from, look_of                        what was read, put together; what a machine shows a thread
+--     view_in                                   what a step may see of it
 -- What is decided by it stands in Decide.antt, and that an event is decided so in EventDecides.antt.
 -- Assumes nothing.
 use Rattle.std.specs.Prelude.{ℕ, Bool, ltb}

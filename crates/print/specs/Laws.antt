@@ -1,6 +1,7 @@
 -- Laws of a line and of a number's digits: text after text; a line's text is what was put in it, where it fits.
 -- Assumes nothing.
-use Rattle.std.specs.Prelude.{ℕ, zero, suc, ◌+◌, ◌-◌, ◌/◌, ◌%◌, ◌≤◌, ◌<◌, ◌≡◌, refl, List, [], ◌∷◌, ◌++◌, length, take, get_or}
+use Rattle.std.specs.Prelude.{ℕ, zero, suc, ◌+◌, ◌-◌, ◌/◌, ◌%◌, ◌≤◌, ◌<◌, ◌≡◌, refl, List, [], ◌∷◌, ◌++◌, length, take}
+use Rattle.std.specs.Prelude.{get_or}
 use Rattle.std.proofs.Common.{sym, ap, ◌∙◌, suc-ne-zero, arith, lt-ltb, le-ltb, take-suc}
 use Rattle.word.specs.Cases.{pick_yes, pick_no}
 use Rattle.print.specs.Text.{decimal_by}

@@ -3,9 +3,11 @@
 -- page's length; a text and its end, laid where any line fits, stand there whole.
 -- Not here: that every line fits (Shown.antt, and the trace's in crate traced).
 -- Assumes nothing.
-use Rattle.std.specs.Prelude.{ℕ, zero, suc, ◌+◌, ◌-◌, ◌≤◌, ◌<◌, true, false, ◌≡◌, refl, List, [], ◌∷◌, ◌++◌, leb, length, take, get_or, set}
+use Rattle.std.specs.Prelude.{ℕ, zero, suc, ◌+◌, ◌-◌, ◌≤◌, ◌<◌, true, false, ◌≡◌, refl, List, [], ◌∷◌, ◌++◌, leb}
+use Rattle.std.specs.Prelude.{length, take, get_or, set}
 use Rattle.std.proofs.lemmas.Bool.{false≢true}
-use Rattle.std.proofs.Common.{sym, ap, ◌∙◌, append_assoc, append-nil, arith, leb-true, le-leb, length-set, length-append, take-suc, take-suc-set}
+use Rattle.std.proofs.Common.{sym, ap, ◌∙◌, append_assoc, append-nil, arith, leb-true, le-leb, length-set}
+use Rattle.std.proofs.Common.{length-append, take-suc, take-suc-set}
 use Rattle.word.specs.Base.{pick}
 use Rattle.word.specs.Cases.{pick_yes, pick_both, pick_first}
 use Rattle.print.specs.Text.{ascii}

@@ -71,7 +71,8 @@ module _ (p q : Print) (right : PrintsWhole p) (other : PrintsWhole q) (s : List
   equal_by (File.Refused refusal) e = right.refused s refusal e ∙ sym (other.refused s refusal e)
   equal_by (File.Accepted threads events) e =
       let m = (fresh_of threads).machine in
-      let runs : (file_replay_of s).run ≡ (replay_of m events_of).run = ap (λ (c : Checked). (file_replay_by c s).run) e in
+      let runs : (file_replay_of s).run ≡ (replay_of m events_of).run =
+      ap (λ (c : Checked). (file_replay_by c s).run) e in
       let told = right.accepted s threads events e in
       let also = other.accepted s threads events e in
       ext_get_or []

@@ -157,7 +157,8 @@ module _ (line : EventLine) (m : Machine) (s : List ℕ) where
         let owners : a.accepted.woken ≡ b.accepted.woken = cc (a.accepted.is, b.accepted.is) in
         a.told ∙ rw (answers, owners) (sym b.told)
 
-    pub tells_same : TellsRun line m s xs → TellsRun line m s ys → (k : ℕ) → k < run + 1 → get_or xs k [] ≡ get_or ys k []
+    pub tells_same : TellsRun line m s xs → TellsRun line m s ys → (k : ℕ) → k < run + 1
+        → get_or xs k [] ≡ get_or ys k []
     tells_same a b k h = by (dec_lt k run)
       where
         by : Dec (k < run) → get_or xs k [] ≡ get_or ys k []

@@ -158,7 +158,8 @@ module _ (v : View) where
   contend_compared writer reloads seen (PermitTo to) e a =
       written (At.ContendCas writer reloads seen) seen to (granted_of writer v.holding) (end Done) a
       (λ q. omega (arith, permit_more writer seen to e, q))
-  contend_compared writer reloads seen PermitRefused e a = contend_by_lem writer reloads seen (permitted_of writer v.word)
+  contend_compared writer reloads seen PermitRefused e a =
+      contend_by_lem writer reloads seen (permitted_of writer v.word)
 
   contend_cas : (writer : Bool) (reloads : ℕ) (seen : Word)
       → All (Moves v (At.ContendCas writer reloads seen)) (contend_cas_of v writer reloads seen)
@@ -170,7 +171,8 @@ module _ (v : View) where
       (contend_compared writer reloads seen (permitted_of writer seen) refl)
       (λ _. contend_by_lem writer reloads seen (permitted_of writer v.word))
 
-  read_unlock_by_lem : (seen : Word) (r : ReadUnlocked) → All (Moves v (At.ReadUnlockCas seen)) (read_unlock_by v v.word r)
+  read_unlock_by_lem : (seen : Word) (r : ReadUnlocked)
+      → All (Moves v (At.ReadUnlockCas seen)) (read_unlock_by v v.word r)
   unfolding lock_effect stand_of
   read_unlock_by_lem seen (UnlockTo to) = inl refl
   read_unlock_by_lem seen Contended = inl refl
@@ -275,7 +277,8 @@ moves v (At.SplitCas o seen z) e =
     everywhere v (At.SplitCas o seen z) (λ c. inl refl) (advance_of v (At.SplitCas o seen z))
 moves v (At.SplitRestore o seen z s) e =
     everywhere v (At.SplitRestore o seen z s) (λ c. inl refl) (advance_of v (At.SplitRestore o seen z s))
-moves v (At.TakeCas o seen z) e = everywhere v (At.TakeCas o seen z) (λ c. inl refl) (advance_of v (At.TakeCas o seen z))
+moves v (At.TakeCas o seen z) e =
+    everywhere v (At.TakeCas o seen z) (λ c. inl refl) (advance_of v (At.TakeCas o seen z))
 moves v (At.WakePrev o c) e = everywhere v (At.WakePrev o c) (λ c. inl refl) (advance_of v (At.WakePrev o c))
 moves v (At.WakeStore o c q) e = everywhere v (At.WakeStore o c q) (λ c. inl refl) (advance_of v (At.WakeStore o c q))
 moves v At.ReadUnlockLoad e = everywhere v At.ReadUnlockLoad (λ c. inl refl) (advance_of v At.ReadUnlockLoad)

@@ -22,7 +22,8 @@ use Rattle.word.specs.declared.rules.ReadUnlocked.{ReadUnlocked}
 use Rattle.word.specs.declared.rules.ReadUnlocked.TheVariants.{To as UnlockTo, Contended, Refused as UnlockRefused}
 use Rattle.state.specs.Access.{access_of}
 use Rattle.state.specs.Node.{filled_of, with_next, with_prev, with_tail, with_completed}
-use Rattle.state.specs.View.{at, end, after_queue, walk_from, agrees_of, stays, writes, links, subtracts, completes, parks}
+use Rattle.state.specs.View.{at, end, after_queue, walk_from, agrees_of, stays, writes, links, subtracts, completes}
+use Rattle.state.specs.View.{parks}
 use Rattle.state.specs.declared.access.Kind.{Kind}
 use Rattle.state.specs.declared.access.Kind.TheVariants.{Nothing, Load, Store, WeakCompare, StrongCompare, FetchOr}
 use Rattle.state.specs.declared.access.Kind.TheVariants.{Subtract as Subtracting, Complete, Park as Parking}
@@ -48,12 +49,14 @@ use Rattle.state.specs.declared.view.Change.{Change}
 use Rattle.state.specs.declared.view.Stepped.{Stepped}
 use Rattle.state.specs.declared.view.Stepped.TheVariants.{To, Refused}
 use Rattle.lock.specs.Advance.{advance_of}
-use Rattle.lock.specs.Effect.{LockEffect, Stand, ended, walks, elsewhere, keeps, grants_read, grants_write, releases_read}
+use Rattle.lock.specs.Effect.{LockEffect, Stand, ended, walks, elsewhere, keeps, grants_read, grants_write}
+use Rattle.lock.specs.Effect.{releases_read}
 use Rattle.lock.specs.Effect.{releases_write, downgrades, lock_effect, release_of, at_end, stand_of, held_after, grants}
 use Rattle.walk.specs.FindTail.{walk_tail_of, walk_next_of, walk_prev_of}
 use Rattle.walk.specs.CompleteAll.{wake_prev_of, wake_store_of}
 use Rattle.acquire.specs.TryWrite.{try_write_or_of}
-use Rattle.acquire.specs.LockContended.{permitted_of, fill_of, contend_by, contend_judged, contend_load_of, contend_cas_by}
+use Rattle.acquire.specs.LockContended.{permitted_of, fill_of, contend_by, contend_judged, contend_load_of}
+use Rattle.acquire.specs.LockContended.{contend_cas_by}
 use Rattle.acquire.specs.LockContended.{contend_cas_of, after_register, register_cas_of, spin_count}
 use Rattle.acquire.specs.declared.lock_contended.Permitted.{Permitted}
 use Rattle.acquire.specs.declared.lock_contended.Permitted.TheVariants.{To as PermitTo, Refused as PermitRefused}
@@ -341,7 +344,8 @@ module _ (v : View) where
   contend_load : (writer : Bool) (reloads : ℕ)
       → All (Obeys v (At.ContendLoad writer reloads)) (contend_load_of v writer reloads)
   unfolding access_of lock_effect fills
-  contend_load writer reloads = contend_judged_lem (At.ContendLoad writer reloads) writer reloads refl refl (λ s e. refl)
+  contend_load writer reloads =
+      contend_judged_lem (At.ContendLoad writer reloads) writer reloads refl refl (λ s e. refl)
 
   contend_failed : (writer : Bool) (reloads : ℕ) (seen : Word)
       → All (Obeys v (At.ContendCas writer reloads seen)) (contend_judged v writer reloads v.word)
@@ -804,8 +808,8 @@ module _ (v : View) where
         (walk_from Downgrade seen)
         (λ q. writes_obeys v (At.DowngradeSlowCas seen) (downgraded_word seen) Read (end Done) downgrades
         refl tt refl refl refl tt (no_fail seen (downgraded_word seen) a))
-        (λ q. writes_obeys v (At.DowngradeSlowCas seen) (downgraded_word seen) Read (walk_from Downgrade seen) downgrades
-        refl tt refl refl refl tt (no_fail seen (downgraded_word seen) a))
+        (λ q. writes_obeys v (At.DowngradeSlowCas seen) (downgraded_word seen) Read (walk_from Downgrade seen)
+        downgrades refl tt refl refl refl tt (no_fail seen (downgraded_word seen) a))
 
     downgrade_slow_cas : All (Obeys v (At.DowngradeSlowCas seen)) (downgrade_slow_cas_of v seen)
     unfolding access_of lock_effect stand_of

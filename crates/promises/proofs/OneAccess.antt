@@ -101,7 +101,8 @@ module _ (m : Machine) (code : ℕ) (t : ThreadNumber) (a : Answer) (w : Owner)
       (λ h. kept (ap (λ (x : Thread). x.token) h))
       (get_set m.threads t.0 u s.c.thread blank_thread)
 
-  moved : (u : ℕ) → TokenAfter m t w stored u → (thread_at m' u).token ≡ (thread_at stored u).token → TokenAfter m t w m' u
+  moved : (u : ℕ) → TokenAfter m t w stored u → (thread_at m' u).token ≡ (thread_at stored u).token
+      → TokenAfter m t w m' u
   moved u (kept q) h = kept (h ∙ q)
   moved u (taken i q) h = taken i q
   moved u (token_set_lem o q) h = token_set_lem o (h ∙ q)

@@ -198,7 +198,8 @@ module _ (p q : Program) (rp : Right p) (rq : Right q) (m : Machine) (code : ℕ
             → node_at x j ≡ kept_but (access_at m t) (node_at x j) (node_at m j)
         kept_but_lem nf x (same h) =
             h ∙
-            (kept_same (access_at m t).kind l (node_at m j) ∙ ap (λ y. kept_but (access_at m t) y (node_at m j)) (sym h))
+            (kept_same (access_at m t).kind l (node_at m j)
+            ∙ ap (λ y. kept_but (access_at m t) y (node_at m j)) (sym h))
         kept_but_lem nf x (accessed i h) = h
         kept_but_lem nf x (filled i k wr h) = never (sym nf ∙ k)
 

@@ -1,7 +1,8 @@
 -- The refusal table holds: an event gives the number of the table's first row whose condition holds,
 -- and a refused event changes nothing.
 -- Assumes nothing.
-use Rattle.std.specs.Prelude.{ℕ, zero, suc, ◌≤◌, ◌<◌, ◌+◌, Bool, true, false, not, [], ◌∷◌, ◌↔◌, ◌≡◌, refl, leb, ltb, eqb}
+use Rattle.std.specs.Prelude.{ℕ, zero, suc, ◌≤◌, ◌<◌, ◌+◌, Bool, true, false, not, [], ◌∷◌, ◌↔◌, ◌≡◌, refl, leb, ltb}
+use Rattle.std.specs.Prelude.{eqb}
 use Rattle.std.proofs.Common.{sym, ap, ◌∙◌, arith, leb-true, leb-false, eqb-true}
 use Rattle.word.specs.Base.{pick}
 use Rattle.word.specs.declared.number.ThreadNumber.{ThreadNumber}

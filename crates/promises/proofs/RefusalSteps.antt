@@ -72,7 +72,8 @@ gives_test false c = goes c
 gives_other : {c : Change} {flag : Bool} (d : Change) → Gives (To c) flag → Gives (To d) flag
 gives_other d (goes c) = goes d
 
-try_read_goes : (v : View) (blocking : Bool) (seen : Word) (r : ReadLocked) → Gives (try_read_by v blocking seen r) false
+try_read_goes : (v : View) (blocking : Bool) (seen : Word) (r : ReadLocked)
+    → Gives (try_read_by v blocking seen r) false
 try_read_goes v blocking seen (ReadTo to) = goes _
 try_read_goes v blocking seen ReadRefused = goes _
 

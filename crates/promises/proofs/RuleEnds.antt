@@ -6,7 +6,8 @@
 -- Assumes nothing.
 use Rattle.std.specs.Prelude.{ℕ, ◌+◌, ◌-◌, Bool, true, false, ◌≡◌, refl, eqb, ltb}
 use Rattle.word.specs.Cases.{pick_both}
-use Rattle.word.specs.Flags.{word, LOCKED, SINGLE, clear_queue_locked, queued, queue_locked, locked, downgraded, set_locked}
+use Rattle.word.specs.Flags.{word, LOCKED, SINGLE, clear_queue_locked, queued, queue_locked, locked, downgraded}
+use Rattle.word.specs.Flags.{set_locked}
 use Rattle.word.specs.Number.{is_none, none, owner_of}
 use Rattle.word.specs.Rules.{registered_of, taken_of, read_lock_of, read_unlock_of}
 use Rattle.word.specs.declared.flags.Word.{Word}
@@ -45,7 +46,8 @@ use Rattle.acquire.specs.declared.lock_contended.Permitted.TheVariants.{To as Pe
 use Rattle.unlock.specs.AfterWalk.{marked_by, tail_found}
 use Rattle.unlock.specs.UnlockQueue.{walk_again, queue_cas_of, split_prev_of, split_cas_of, take_cas_of}
 use Rattle.release.specs.Downgrade.{downgrade_cas_of, downgraded_word, downgrade_slow_cas_of}
-use Rattle.release.specs.ReadUnlock.{read_unlock_by, read_unlock_judged, read_unlock_cas_by, read_unlock_cas_of, subtract_of}
+use Rattle.release.specs.ReadUnlock.{read_unlock_by, read_unlock_judged, read_unlock_cas_by, read_unlock_cas_of}
+use Rattle.release.specs.ReadUnlock.{subtract_of}
 use Rattle.release.specs.UnlockContended.{released_to, release_cas_of}
 use Rattle.release.specs.WriteUnlock.{write_unlock_cas_of}
 use Rattle.promises.proofs.Obeys.{All}

@@ -117,7 +117,8 @@ module _ (v : View) where
       by ReadRefused e a =
           agrees p x to (λ c q. q) a (ap (read_to x) e) (try_read_judged v b v.word) (try_read_keeps b)
 
-  contend_cas : (w : Bool) (r : ℕ) (x : Word) → All (Leaves v (At.ContendCas w r x)) (advance_of v (At.ContendCas w r x))
+  contend_cas : (w : Bool) (r : ℕ) (x : Word)
+      → All (Leaves v (At.ContendCas w r x)) (advance_of v (At.ContendCas w r x))
   unfolding advance_of access_of left_by
   contend_cas w r x =
       pick_both (All (Leaves v p)) (agrees_of v x) _ _

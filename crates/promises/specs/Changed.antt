@@ -1,7 +1,7 @@
--- Programs with another rule for the steps: `event_of` is the one with `advance_of`. For wrong programs only (Wrong.antt,
--- and crate safety's).
--- In order: the program of a rule; that the right rule gives `event_of`; the rule of one place changed; changes to make;
--- machines to try them on.
+-- Programs with another rule for the steps: `event_of` is the one with `advance_of`. For wrong programs only
+-- (Wrong.antt, and crate safety's).
+-- In order: the program of a rule; that the right rule gives `event_of`; the rule of one place changed; changes to
+-- make; machines to try them on.
 -- Not here: what is wrong with a changed program.
 -- Assumes nothing.
 use Rattle.std.specs.Prelude.{ℕ, Bool, true, false, ◌≡◌, refl, leb, eqb, replicate, set}

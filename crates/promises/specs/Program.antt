@@ -1,5 +1,5 @@
--- A program is what makes an outcome of a machine, a code and a thread, as `event_of` does. The statements of this crate
--- are over any program, so that a wrong one is a definition like any other; the theorems are their instances at
+-- A program is what makes an outcome of a machine, a code and a thread, as `event_of` does. The statements of this
+-- crate are over any program, so that a wrong one is a definition like any other; the theorems are their instances at
 -- `event_of`.
 -- Here: the program, where a thread stands, the access that it makes there. Not here: the statements (Statements.antt).
 -- Assumes nothing.

@@ -148,8 +148,8 @@ GoesExactly event =
     → place_of (event m code t).machine t
     ≡ goes_to t (place_of m t) (eqb code 17) (value_at m (access_at m t).location) (writer_of m)
 
--- at an access to the word the own node is the one of table `node_for`: filled exactly before registering. (At any other
--- access one_access leaves no node but the one accessed.)
+-- at an access to the word the own node is the one of table `node_for`: filled exactly before registering. (At any
+-- other access one_access leaves no node but the one accessed.)
 abbrev pub FillsExactly : Program → Type 0
 FillsExactly event =
     (m : Machine) (code : ℕ) (t : ThreadNumber) (a : Answer) (w : Owner)
@@ -343,8 +343,9 @@ AnsweredAtTheGrant event =
 
 -- the statements that leave no choice. A reader who believes them has to believe what they cite: refusal_rows
 -- (Refusals.antt); tries, acquires, fills, writes_word, takes_token and kept_but (Shared.antt); value_at, begins_at and
--- left_by (Tables.antt); goes_to and node_for (Goes.antt); access_of and filled_of (state); lock_effect, stand_of, held_after
--- and grants (lock, Effect.antt); the words of the lock's rules (word, Rules.antt), by the call permitted_of (acquire)
+-- left_by (Tables.antt); goes_to and node_for (Goes.antt); access_of and filled_of (state); lock_effect, stand_of,
+-- held_after and grants (lock, Effect.antt); the words of the lock's rules (word, Rules.antt), by the call permitted_of
+-- (acquire)
 pub record Right (event : Program) : Type 0 where
   pub table : RefusalTable event
   pub unchanged : RefusedUnchanged event

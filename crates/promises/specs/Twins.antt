@@ -124,7 +124,8 @@ module _ (t : ThreadNumber) (fails : Bool) (h : Holding) (n n' : Node) (k k' : M
   try_read_by_lem blocking (ReadTo to) = (refl, inl (refl, refl), tt)
   try_read_by_lem blocking ReadRefused = (refl, inl (refl, refl), tt)
 
-  try_read_cas_by_lem : (blocking : Bool) (r : ReadLocked) → R (try_read_cas_by v blocking r) (try_read_cas_by v' blocking r)
+  try_read_cas_by_lem : (blocking : Bool) (r : ReadLocked)
+      → R (try_read_cas_by v blocking r) (try_read_cas_by v' blocking r)
   try_read_cas_by_lem blocking (ReadTo to) = (refl, inl (refl, refl), tt)
   try_read_cas_by_lem blocking ReadRefused = try_read_by_lem blocking (read_lock_of w)
 
@@ -198,7 +199,8 @@ module _ (t : ThreadNumber) (fails : Bool) (h : Holding) (n n' : Node) (k k' : M
 
   read_unlock_cas : (x : Word) → AtWord (At.ReadUnlockCas x)
   unfolding advance_of
-  read_unlock_cas x = both R (agrees_of v x) (read_unlock_cas_by_lem (read_unlock_of x)) (read_unlock_by_lem (read_unlock_of w))
+  read_unlock_cas x =
+      both R (agrees_of v x) (read_unlock_cas_by_lem (read_unlock_of x)) (read_unlock_by_lem (read_unlock_of w))
 
   write_unlock : AtWord At.WriteUnlockCas
   unfolding advance_of

@@ -275,7 +275,8 @@ subtraction_reads_the_word_refuted holds =
 
 -- the load of completed also reads the token
 abbrev pub completed_load_reads_the_token : Program
-completed_load_reads_the_token = program_of (changed_at 7 (λ v s. pick v.token (stays v (at (At.CompletedLoad false))) s))
+completed_load_reads_the_token =
+    program_of (changed_at 7 (λ v s. pick v.token (stays v (at (At.CompletedLoad false))) s))
 
 pub completed_load_reads_the_token_refuted : ReadsOneAccess completed_load_reads_the_token → ⊥
 unfolding advance_of access_of marked_of which

@@ -84,7 +84,8 @@ module _ {q q' p : Interval} {log' : ℕ → ℕ} {l l' : Links} (mine : Agree p
       by changes st = st refl
       by alone st = agree_still mine
 
-  over_on : (h : ℕ) → (walked_on k q p).fl ≤ h → Over k (walked_on k q p) l h → Over k (walked_on k q' (relog p log')) l' h
+  over_on : (h : ℕ) → (walked_on k q p).fl ≤ h → Over k (walked_on k q p) l h
+      → Over k (walked_on k q' (relog p log')) l' h
   over_on = by k cl
     where
       by : (k : WalkKind) → (modifies k ≡ true → KeepsClean q q' l l') → (h : ℕ) → (walked_on k q p).fl ≤ h

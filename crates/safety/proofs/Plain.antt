@@ -300,7 +300,8 @@ module _ (m : Machine) (ok : Ok m) (e : Event) where
       by releases_write a z = (writes_is _ a, all_hold Nothing z)
       by downgrades a z = (writes_is _ a, all_hold Read z)
 
-pub run_allowed : (m : Machine) → Ok m → (es : List Event) → Plainly event_of (holders_of m) m es (holders_of (ran m es))
+pub run_allowed : (m : Machine) → Ok m → (es : List Event)
+    → Plainly event_of (holders_of m) m es (holders_of (ran m es))
 unfolding Plainly ran_by
 run_allowed m ok [] = refl
 run_allowed m ok (e ∷ es) = (

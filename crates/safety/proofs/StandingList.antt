@@ -22,7 +22,8 @@ use Rattle.listing.specs.Laws.{waiters_most}
 use Rattle.listing.specs.Listing.{Listed, listed, waiters_by}
 use Rattle.standing.specs.Part.{part_of, registered_of}
 use Rattle.standing.specs.Look.{place_of as place_below, completed_of, among}
-use Rattle.standing.specs.Stands.{aside_in as is_aside, in_list_of, held_by, held_below, in_queue_of, waiting_at, standing_of}
+use Rattle.standing.specs.Stands.{aside_in as is_aside, in_list_of, held_by, held_below, in_queue_of, waiting_at}
+use Rattle.standing.specs.Stands.{standing_of}
 use Rattle.standing.specs.declared.part.Part.{Part}
 use Rattle.standing.specs.declared.stands.Standing.{Standing}
 use Rattle.standing.specs.declared.stands.Standing.TheVariants.{NotWaiting, Completed, InQueue, SetAside, InList}
@@ -47,7 +48,8 @@ module _ (m : Machine) (ok : Ok m) where
   -- below the limit the trace sees the thread's place
   place_is : (k : ℕ) → k < thread_limit → place_below m k ≡ (thread_at m k).place
   place_is k l =
-      sym (pick_yes (ltb k thread_limit) (thread_at m k).place (thread_at m k).place Idle (lt-ltb k thread_limit l) refl)
+      sym (pick_yes (ltb k thread_limit) (thread_at m k).place (thread_at m k).place Idle
+      (lt-ltb k thread_limit l) refl)
 
   -- ── a node on the threads' lists ──
 
@@ -83,7 +85,8 @@ module _ (m : Machine) (ok : Ok m) where
         subst (λ p. Finds (suc k) (held_by m k (part_of p) n (held_below k m n))) (sym (place_is k (omega (arith, l))))
         (by (finds k (omega (arith, l))) (is_aside (part k) n) refl (in_list_of m (part k) n) refl)
       where
-        by : Finds k (held_below k m n) → (a : Bool) → is_aside (part k) n ≡ a → (w : Bool) → in_list_of m (part k) n ≡ w
+        by : Finds k (held_below k m n) → (a : Bool) → is_aside (part k) n ≡ a → (w : Bool)
+            → in_list_of m (part k) n ≡ w
             → Finds (suc k) (pick a (SetAside (thread k)) (pick w (InList (thread k)) (held_below k m n)))
         by r true ea w ew = set_aside k ((lists_of k).0.0 ea)
         by r false ea true ew = in_list k ((lists_of k).1.0 ew)

@@ -105,7 +105,8 @@ module _ (m : Machine) (ok : Ok m) (t : ThreadNumber) (g : Log) (d : Tidy t g m)
           let bad : ◌≡◌ {A = ℕ} 0 1 = cc in
           omega arith
 
-    step_tidy : (a : Answer) (w : Owner) → (event_of m code t).reply ≡ Accepted a w → Stepping m code t (event_of m code t)
+    step_tidy : (a : Answer) (w : Owner) → (event_of m code t).reply ≡ Accepted a w
+        → Stepping m code t (event_of m code t)
         → (n : Now) → FitsNow n (place_of m t) (thread_at m t.0).holding
         → Tidy t (noted (Accepted a w) code did (record { now = n; ended = g.ended })) next
     step_tidy a w e s resting f = absurd (not_resting a w e s f)

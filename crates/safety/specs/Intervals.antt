@@ -69,7 +69,8 @@ node_is x k e = λ j. record { 0 = e j }
 module _ (m : Machine) where
   -- what the listing does on a node after it has listed it
   abbrev onward : ℕ → NodeNumber → Listed
-  onward left at = pick (is_none (node_by m at).tail) (to_set left m (link_of m at)) (to_tail left m (node_by m at).tail at)
+  onward left at =
+      pick (is_none (node_by m at).tail) (to_set left m (link_of m at)) (to_tail left m (node_by m at).tail at)
 
   -- a node in range is that of its number
   pub node_by_lem : (k : ℕ) → k ≢ 0 → node_by m (node k) ≡ node_in m.nodes k

@@ -60,7 +60,7 @@ aside_by m part = pick (aside_of part) (held_by m part) (listed [])
 abbrev pub wakes_by : Machine → Part → Listed
 wakes_by m part = pick (aside_of part) (listed []) (held_by m part)
 
--- so it is on the thread's set_aside list, or on its waker's list
+-- so it is on the thread's set-aside list, or on its waker's list
 abbrev pub aside_in : Machine → Place → Listed
 aside_in m p = aside_by m (part_of p)
 

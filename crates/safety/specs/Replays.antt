@@ -47,7 +47,8 @@ replay_runs m ok (code ∷ t ∷ s) =
     by (Refused r) e later = record {
       events = [];
       machine = refl;
-      not_eight = subst (λ (x : Reply). number_given x ≢ refusal_number Damaged) e (event_not_eight m ok code (thread t));
+      not_eight =
+          subst (λ (x : Reply). number_given x ≢ refusal_number Damaged) e (event_not_eight m ok code (thread t));
     }
     by (Accepted a w) e later = record {
       events = record { code = code; thread = thread t } ∷ later.events;

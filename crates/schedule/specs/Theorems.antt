@@ -138,7 +138,8 @@ module _ (m : Machine) (s : List ℕ) where
   cursor_follows k h =
       goes k h ∙ ap (λ (r : Replayed). record { machine = r.machine; at = k }) (sym (beginning_runs m s k h))
 
-  stays : (k : ℕ) → End m s k → moved_of (standing m s k) s ≡ moved_to (standing m s k) (seen_at s k (replay_of m s).stop)
+  stays : (k : ℕ) → End m s k
+      → moved_of (standing m s k) s ≡ moved_to (standing m s k) (seen_at s k (replay_of m s).stop)
   stays k (none_left h e) = moved_ended (standing m s k) s (omega arith) ∙ rw e
   stays k (refused refusal h r e) =
       moved_refused (standing m s k) s (event_at (state_at m s k) s k) h refl refusal r ∙ rw (r, e)

@@ -1,6 +1,7 @@
 // Whose steps have to come before a queued waiter is woken.
 ghost use Rattle.std.specs.Prelude.{◌≡◌};
-ghost use Rattle.standing.specs.Rouses.{holding_of, holds_of, leaves_of, owns_of, hands_off, sees, rouses_by, rouses_of};
+ghost use Rattle.standing.specs.Rouses.{holding_of, holds_of, leaves_of, owns_of, hands_off, sees, rouses_by};
+ghost use Rattle.standing.specs.Rouses.{rouses_of};
 
 use crate::look::{completed_of, place_of};
 use crate::part::{Part, part_at};

@@ -17,7 +17,8 @@ pub nodes_none : (ns : List NodeNumber) → [] ≡ nodes_text 0 ns
 unfolding nodes_text
 nodes_none ns = refl
 
-pub nodes_more : (k : ℕ) (ns : List NodeNumber) → nodes_text k ns ++ node_text (get_or ns k none) ≡ nodes_text (k + 1) ns
+pub nodes_more : (k : ℕ) (ns : List NodeNumber) → nodes_text k ns
+    ++ node_text (get_or ns k none) ≡ nodes_text (k + 1) ns
 unfolding nodes_text
 nodes_more k ns =
     let e : suc k ≡ k + 1 = omega arith in

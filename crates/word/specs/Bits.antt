@@ -7,7 +7,8 @@
 -- Assumes nothing.
 use Rattle.std.specs.Prelude.{ℕ, ◌+◌, ◌-◌, ◌*◌, ◌/◌, ◌%◌, ◌≤◌, ◌<◌, ◌≡◌}
 use Rattle.std.proofs.Common.{sym, ap, ◌∙◌, one-mul, mul_assoc, mul_comm, div-lt_iff_lt-mul, le-div_iff_mul-le, arith}
-use Rattle.std.proofs.Math.Nat.{add-div_right, add-mod_right, div-eq-sub-div, mod-eq-sub-mod, mod-add-div, div-div-eq-div-mul, add-mul-div_left}
+use Rattle.std.proofs.Math.Nat.{add-div_right, add-mod_right, div-eq-sub-div, mod-eq-sub-mod, mod-add-div}
+use Rattle.std.proofs.Math.Nat.{div-div-eq-div-mul, add-mul-div_left}
 
 pub record But (f n m : ℕ) : Type 0 where
   pub above : n / f / 2 ≡ m / f / 2

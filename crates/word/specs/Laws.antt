@@ -5,11 +5,13 @@
 --     set_keeps, clear_keeps   every other flag stays, as
 --                              `set_keeps LOCKED QUEUED refl w : queued (set_locked w) ≡ queued w`
 --     set_node, clear_node     and so does the number
---     read-lock-.., write-lock-.., read-unlock-.., registered-.., taken-..    what the rule of that name does
+--     read_lock_.., write_lock_.., read_unlock_.., registered_.., taken_..    what the rule of that name does
 -- Assumes nothing.
-use Rattle.std.specs.Prelude.{ℕ, zero, suc, ◌+◌, ◌-◌, ◌*◌, ◌/◌, ◌%◌, ◌^◌, ◌≤◌, ◌<◌, Bool, true, false, ◌&&◌, ◌||◌, ◌⊎◌, ◌≡◌, refl, ltb, leb, eqb}
+use Rattle.std.specs.Prelude.{ℕ, zero, suc, ◌+◌, ◌-◌, ◌*◌, ◌/◌, ◌%◌, ◌^◌, ◌≤◌, ◌<◌, Bool, true, false, ◌&&◌, ◌||◌, ◌⊎◌}
+use Rattle.std.specs.Prelude.{◌≡◌, refl, ltb, leb, eqb}
 use Rattle.std.proofs.Math.Bool.{and-eq-true_iff}
-use Rattle.std.proofs.Common.{inl, inr, ⊎_elim, sym, ap, mul_assoc, arith, eqb-true, eq-eqb, ne_eqb, leb-false, ltb-false}
+use Rattle.std.proofs.Common.{inl, inr, ⊎_elim, sym, ap, mul_assoc, arith, eqb-true, eq-eqb, ne_eqb, leb-false}
+use Rattle.std.proofs.Common.{ltb-false}
 use Rattle.std.proofs.Math.Nat.{mul-div_cancel', dvd_of_mod-eq-zero}
 use Rattle.std.proofs.lemmas.Bool.{eqb-false}
 use Rattle.word.specs.Base.{pick}

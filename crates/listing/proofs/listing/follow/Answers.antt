@@ -12,7 +12,8 @@ use Rattle.listing.specs.declared.listing.Found.{Found}
 use Rattle.listing.specs.declared.listing.Found.TheVariants.{Tail, Refused as NotFound}
 use Rattle.listing.proofs.Turn.{on, set_spent, set_lost, set_on, set_met}
 use Rattle.listing.proofs.listing.follow.Goals as goal
-use Rattle.listing.proofs.listing.follow.Goals.{then-count-visits, else-count-visits+then-not-within, else-count-visits+else-not-within+then-not-is_none}
+use Rattle.listing.proofs.listing.follow.Goals.{then-count-visits, else-count-visits+then-not-within}
+use Rattle.listing.proofs.listing.follow.Goals.{else-count-visits+else-not-within+then-not-is_none}
 
 -- what was found is right: from the node stood on, the tail is still to be gone to; or the listing is lost
 abbrev Right : Machine → NodeNumber → NodeNumber → List NodeNumber → ℕ → Found → Type 0
@@ -34,7 +35,8 @@ loop-visits-preserved c =
     )
 
 right : (c : goal.In-Tail)
-    → Right c.args.m c.args.head c.loop-visits.at c.if-count-visits.stood c.if-count-visits.visits c.if-count-visits.found
+    → Right c.args.m c.args.head c.loop-visits.at c.if-count-visits.stood c.if-count-visits.visits
+    c.if-count-visits.found
 right c =
     let l = c.loop-visits in
     elim c.if-count-visits.branch [

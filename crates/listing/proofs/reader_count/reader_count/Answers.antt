@@ -6,5 +6,12 @@ use Rattle.listing.proofs.reader_count.reader_count.Goals as goal
 
 pub held-requires : goal.held-requires
 held-requires c =
-    let good = sym c.if-good_count.ensures in
-    (good, omega (arith, in_range c.args.m.count thread_limit good, reads_most c.args.m.count c.args.m, c.reads_below.ensures))
+    let good = sym c.if-good_count.ensures in (
+      good,
+      omega (
+        arith,
+        in_range c.args.m.count thread_limit good,
+        reads_most c.args.m.count c.args.m,
+        c.reads_below.ensures,
+      ),
+    )
