@@ -35,7 +35,7 @@ use Rattle.invariant.proofs.Walks.{kept_walk_tail, kept_walk_next, kept_walk_pre
 use Rattle.invariant.proofs.Owner.{kept_queue_cas}
 use Rattle.invariant.proofs.Split.{kept_split_prev, kept_split_store, kept_split_cas, kept_split_restore}
 use Rattle.invariant.proofs.Take.{kept_take_cas}
-use Rattle.invariant.proofs.Wake.{Waiter-of, waiter_of_lem, kept_wake_prev, kept_wake_store}
+use Rattle.invariant.proofs.Wake.{WaiterOf, waiter_of_lem, kept_wake_prev, kept_wake_store}
 use Rattle.invariant.proofs.ReadUnlock.{kept_read_unlock_load, kept_read_unlock_cas}
 use Rattle.invariant.proofs.Subtract.{kept_subtract}
 use Rattle.invariant.proofs.Release.{kept_write_unlock_cas, kept_release_cas}
@@ -120,7 +120,7 @@ module _ {n : ℕ} {s : Lock} {g : Ghost} (i : Inv n s g) where
   -- a node that waits has a slot
   pub slot_waiting : (k : NodeNumber) → WaitingNode k.0 → (j : ℕ) × (slot_of k n ≡ At j)
   slot_waiting k w =
-      let x : Waiter-of s k.0 = waiter_of_lem s k.0 w in
+      let x : WaiterOf s k.0 = waiter_of_lem s k.0 w in
       let l : x.thread < n = inside i x.thread (λ a. a.registered) refl x.registered in (
         k.0 - 1,
         sym (pick_no (ltb k.0 1) _ Outside _ (le-ltb k.0 1 (omega (arith, x.node)))

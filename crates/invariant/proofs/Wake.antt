@@ -48,18 +48,18 @@ links_completed nd k = λ i. record {
 
 -- ── a node that waits is a registered thread's ──
 
-pub record Waiter-of (s : Lock) (k : ℕ) : Type 0 where
+pub record WaiterOf (s : Lock) (k : ℕ) : Type 0 where
   pub thread : ℕ
   pub node : suc thread ≡ k
   pub registered : (about_at s thread).registered ≡ true
   pub open_node : (s.nd k).completed ≡ false
 
-pub waiter_of_lem : (s : Lock) (k : ℕ) → wait_of s.th s.nd k ≡ true → Waiter-of s k
+pub waiter_of_lem : (s : Lock) (k : ℕ) → wait_of s.th s.nd k ≡ true → WaiterOf s k
 waiter_of_lem s zero e = never refl e
 waiter_of_lem s (suc u) e = by (about_at s u).registered (s.nd (suc u)).completed refl refl e
   where
     by : (r c : Bool) → (about_at s u).registered ≡ r → (s.nd (suc u)).completed ≡ c → pick r (not c) false ≡ true
-        → Waiter-of s (suc u)
+        → WaiterOf s (suc u)
     by true false a b z = record { thread = u; node = refl; registered = a; open_node = b }
     by true true a b z = never refl z
     by false c a b z = never refl z
@@ -70,7 +70,7 @@ module _ {n : ℕ} {s : Lock} {g : Ghost} (i : Inv n s g) (t : ℕ) (tin : t < n
   is = ap about here
 
   -- the node that t completes waits
-  pub wakes_whom : Waiter-of s current.0
+  pub wakes_whom : WaiterOf s current.0
   wakes_whom =
       waiter_of_lem s current.0
       (subst (λ a. EachNode (NodeWaits i.queue t) a.role) is (named_wait i.queue t)).0
@@ -257,7 +257,7 @@ module _ (st : Setting) (few : st.n ≤ thread_limit) (who : Who) (current : Nod
       (Taking.load_wake i.queue me.0 (same_role here)))
 
   module _ (prev : NodeNumber) (here : (mine st).place ≡ WakeStore who current prev) where
-    whom : Waiter-of s current.0
+    whom : WaiterOf s current.0
     whom = wakes_whom i me.0 tin who current prev here
 
     within : whom.thread < n

@@ -128,16 +128,16 @@ begin_table m t code b =
 -- ── the event ──
 
 -- a code is that of a begin, of a step or of a step that fails, or of none
-data Code-is : Bool → Bool → Bool → Type 0 where
-  a_begin : Code-is true false false
-  a_step : Code-is false true false
-  a_fail : Code-is false false true
-  unknown : Code-is false false false
+data CodeIs : Bool → Bool → Bool → Type 0 where
+  a_begin : CodeIs true false false
+  a_step : CodeIs false true false
+  a_fail : CodeIs false false true
+  unknown : CodeIs false false false
 
-code_is : (code : ℕ) → Code-is (leb code 6) (eqb code 16) (eqb code 17)
+code_is : (code : ℕ) → CodeIs (leb code 6) (eqb code 16) (eqb code 17)
 code_is code = by_tests (leb code 6) (eqb code 16) (eqb code 17) (leb-true code 6) (eqb-true code 16) (eqb-true code 17)
   where
-    by_tests : (b s f : Bool) → (b ≡ true → code ≤ 6) → (s ≡ true → code ≡ 16) → (f ≡ true → code ≡ 17) → Code-is b s f
+    by_tests : (b s f : Bool) → (b ≡ true → code ≤ 6) → (s ≡ true → code ≡ 16) → (f ≡ true → code ≡ 17) → CodeIs b s f
     by_tests true true f p q r = absurd (omega (arith, p refl, q refl))
     by_tests true false true p q r = absurd (omega (arith, p refl, r refl))
     by_tests true false false p q r = a_begin
@@ -162,7 +162,7 @@ counted : (m : Machine) (later : ℕ) (rest : Outcome) → number_given rest.rep
 counted m later rest p = row_unless 8 later (good_count m.count) _ rest _ refl refl (λ _. p)
 
 -- then 1, 2 and the rows of a begin or of a step
-by_code : (m : Machine) (code : ℕ) (t : ThreadNumber) {b s f : Bool} → Code-is b s f
+by_code : (m : Machine) (code : ℕ) (t : ThreadNumber) {b s f : Bool} → CodeIs b s f
     → leb code 6 ≡ b
     → eqb code 16 ≡ s
     → eqb code 17 ≡ f

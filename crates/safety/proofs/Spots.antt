@@ -15,7 +15,7 @@ use Rattle.queue.specs.Tests.{never}
 use Rattle.queue.specs.Tickets.{Ghost, Held, Somewhere}
 use Rattle.invariant.specs.Table.{wait_of}
 use Rattle.invariant.proofs.Exclusion.{inside}
-use Rattle.invariant.proofs.Wake.{Waiter-of, waiter_of_lem}
+use Rattle.invariant.proofs.Wake.{WaiterOf, waiter_of_lem}
 use Rattle.invariant.specs.Bridge.{node_in, lock_of}
 use Rattle.invariant.proofs.Events.{Ok}
 use Rattle.safety.specs.Lists.{held_by, aside_of}
@@ -26,7 +26,7 @@ use Rattle.safety.specs.Parts.{same_part}
 use Rattle.safety.specs.Statements.{Waiter, Waits, Spot, queue, aside, waker, In, At, OneSpot}
 
 -- a node that waits is a waiter's
-pub waiter_is : (m : Machine) → Ok m → (k : ℕ) → Waiter-of (lock_of m) k → Waits m (node k)
+pub waiter_is : (m : Machine) → Ok m → (k : ℕ) → WaiterOf (lock_of m) k → Waits m (node k)
 waiter_is m ok k w = (
   w.thread,
   ap node (sym w.node ∙ sym (add-one w.thread)),

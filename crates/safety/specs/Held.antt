@@ -21,7 +21,7 @@ use Rattle.queue.specs.Roles.{Know, Ground, AsideAt, WakeAt, StoreAt}
 use Rattle.invariant.specs.Table.{hands_off, look_kind, about, links_of, wait_of}
 use Rattle.invariant.specs.Invariant.{Newest}
 use Rattle.invariant.proofs.Exclusion.{inside}
-use Rattle.invariant.proofs.Wake.{Waiter-of, waiter_of_lem}
+use Rattle.invariant.proofs.Wake.{WaiterOf, waiter_of_lem}
 use Rattle.invariant.specs.Bridge.{node_in, lock_of}
 use Rattle.invariant.proofs.Events.{Ok}
 use Rattle.safety.specs.Lists.{turned, queue_in, back_from, held_by}
@@ -38,7 +38,7 @@ module _ (m : Machine) (ok : Ok m) where
   -- a ticket that somebody holds is of a node in range
   in_range : (o i : ℕ) → Held g (wait_of (thread_at m) (node_in m.nodes)) o i → g.log i ≤ m.count
   in_range o i h =
-      let x : Waiter-of (lock_of m) (g.log i) = waiter_of_lem (lock_of m) (g.log i) h.waits in
+      let x : WaiterOf (lock_of m) (g.log i) = waiter_of_lem (lock_of m) (g.log i) h.waits in
       omega (arith, x.node, inside ok.inv x.thread (λ a. a.registered) refl x.registered)
 
   -- ── the queue ──
