@@ -1,17 +1,13 @@
 -- Contend: load; if the lock rule permits, weak compare; else reload or fill the node, and register it.
 -- Assumes nothing.
-use Rattle.std.specs.Prelude.{ℕ, ◌+◌, Bool, ltb}
+use Rattle.std.specs.Prelude.{ℕ, ◌+◌, Bool, ltb, Option, Some, None}
 use Rattle.word.specs.Base.{pick}
 use Rattle.word.specs.Flags.{queued, queue_locked}
 use Rattle.word.specs.Rules.{read_lock_of, write_lock_of, registered_of}
 use Rattle.word.specs.declared.flags.Word.{Word}
-use Rattle.word.specs.declared.rules.ReadLocked.{ReadLocked}
-use Rattle.word.specs.declared.rules.ReadLocked.TheVariants.{To as ReadTo, Refused as ReadRefused}
-use Rattle.word.specs.declared.rules.WriteLocked.{WriteLocked}
-use Rattle.word.specs.declared.rules.WriteLocked.TheVariants.{To as WriteTo, Refused as WriteRefused}
 use Rattle.state.specs.Holding.{granted_read, granted_write}
 use Rattle.state.specs.Node.{filled_of}
-use Rattle.state.specs.View.{at, end, walk_from, agrees_of, stays, writes, links}
+use Rattle.state.specs.View.{at, end, walk_from, agrees_of, stays, writes, links, Stepped}
 use Rattle.state.specs.declared.answer.Answer.TheVariants.{Done}
 use Rattle.state.specs.declared.holding.Holding.{Holding}
 use Rattle.state.specs.declared.place.Who.TheVariants.{Waiter}
@@ -19,24 +15,20 @@ use Rattle.state.specs.declared.place.Walk.TheVariants.{Queue}
 use Rattle.state.specs.declared.place.Place.TheVariants.{ContendLoad, ContendCas, RegisterCas, CompletedLoad}
 use Rattle.state.specs.declared.view.View.{View}
 use Rattle.state.specs.declared.view.Next.{Next}
-use Rattle.state.specs.declared.view.Stepped.{Stepped}
-use Rattle.acquire.specs.declared.lock_contended.Permitted.{Permitted}
-use Rattle.acquire.specs.declared.lock_contended.Permitted.TheVariants.{To, Refused}
 
 -- reloads before a thread queues
 abbrev pub spin_count : ℕ
 spin_count = 7
 
-abbrev pub by_read : ReadLocked → Permitted
-by_read (ReadTo to) = To to
-by_read ReadRefused = Refused
+-- what each rule answers, as it is
+abbrev pub by_read : Option Word → Option Word
+by_read r = r
 
-abbrev pub by_write : WriteLocked → Permitted
-by_write (WriteTo to) = To to
-by_write WriteRefused = Refused
+abbrev pub by_write : Option Word → Option Word
+by_write r = r
 
 -- the lock rule, by the call
-abbrev pub permitted_of : Bool → Word → Permitted
+abbrev pub permitted_of : Bool → Word → Option Word
 permitted_of writer seen = pick writer (by_write (write_lock_of seen)) (by_read (read_lock_of seen))
 
 abbrev pub granted_of : Bool → Holding → Holding
@@ -53,9 +45,9 @@ reload_or_fill v writer reloads seen =
     (fill_of v writer reloads seen)
     (pick (ltb reloads spin_count) (stays v (at (ContendLoad writer (reloads + 1)))) (fill_of v writer reloads seen))
 
-abbrev pub contend_by : View → Bool → ℕ → Word → Permitted → Stepped
-contend_by v writer reloads seen (To to) = stays v (at (ContendCas writer reloads seen))
-contend_by v writer reloads seen Refused = reload_or_fill v writer reloads seen
+abbrev pub contend_by : View → Bool → ℕ → Word → Option Word → Stepped
+contend_by v writer reloads seen (Some to) = stays v (at (ContendCas writer reloads seen))
+contend_by v writer reloads seen None = reload_or_fill v writer reloads seen
 
 -- by the word last loaded or reported: if the lock rule permits, weak compare
 abbrev pub contend_judged : View → Bool → ℕ → Word → Stepped
@@ -65,9 +57,9 @@ contend_judged v writer reloads seen = contend_by v writer reloads seen (permitt
 abbrev pub contend_load_of : View → Bool → ℕ → Stepped
 contend_load_of v writer reloads = contend_judged v writer reloads v.word
 
-abbrev pub contend_cas_by : View → Bool → ℕ → Permitted → Stepped
-contend_cas_by v writer reloads (To to) = writes v to (granted_of writer v.holding) (end Done)
-contend_cas_by v writer reloads Refused = contend_judged v writer reloads v.word
+abbrev pub contend_cas_by : View → Bool → ℕ → Option Word → Stepped
+contend_cas_by v writer reloads (Some to) = writes v to (granted_of writer v.holding) (end Done)
+contend_cas_by v writer reloads None = contend_judged v writer reloads v.word
 
 -- weak compare by the lock rule
 abbrev pub contend_cas_of : View → Bool → ℕ → Word → Stepped

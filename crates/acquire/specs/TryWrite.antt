@@ -4,12 +4,11 @@ use Rattle.std.specs.Prelude.{Bool, true}
 use Rattle.word.specs.Base.{pick}
 use Rattle.word.specs.Flags.{locked, set_locked}
 use Rattle.state.specs.Holding.{granted_write}
-use Rattle.state.specs.View.{at, end, granted, stays, writes}
+use Rattle.state.specs.View.{at, end, granted, stays, writes, Stepped}
 use Rattle.state.specs.declared.answer.Answer.TheVariants.{No}
 use Rattle.state.specs.declared.place.Place.TheVariants.{ContendLoad}
 use Rattle.state.specs.declared.view.View.{View}
 use Rattle.state.specs.declared.view.Next.{Next}
-use Rattle.state.specs.declared.view.Stepped.{Stepped}
 
 -- write contends; try_write ends with no
 abbrev pub try_write_refused : Bool → Next

@@ -2,10 +2,9 @@
 -- Assumes nothing.
 use Rattle.std.specs.Prelude.{Bool, false}
 use Rattle.word.specs.Base.{pick}
-use Rattle.state.specs.View.{at, stays, parks}
+use Rattle.state.specs.View.{at, stays, parks, Stepped}
 use Rattle.state.specs.declared.place.Place.TheVariants.{ContendLoad, CompletedLoad, Park}
 use Rattle.state.specs.declared.view.View.{View}
-use Rattle.state.specs.declared.view.Stepped.{Stepped}
 
 abbrev pub completed_load_of : View → Bool → Stepped
 completed_load_of v writer =

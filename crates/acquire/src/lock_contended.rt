@@ -1,33 +1,36 @@
 // lock_contended: load and judge the word; take the lock, reload, or fill the node and register it.
 ghost use Rattle.std.specs.Prelude.{◌≡◌};
+ghost use Rattle.word.specs.Base.{pick};
+ghost use Rattle.acquire.specs.TryRead.{try_read_refused};
+ghost use Rattle.acquire.specs.TryWrite.{try_write_refused};
 ghost use Rattle.acquire.specs.LockContended.{permitted_of, granted_of, fill_of, reload_or_fill, contend_judged};
 ghost use Rattle.acquire.specs.LockContended.{contend_load_of, contend_cas_of, after_register, register_cas_of};
 
 use state::{Answer, Holding, Next, Node, Place, Stepped, View, Walk, Who};
-use word::{ReadLocked, Word, WriteLocked};
+use word::Word;
 
 // queue.rs reloads the word so many times before it queues.
 pub const SPIN_COUNT: u8 = 7;
 
-// The lock rule of the call, read_lock or write_lock: the word to compare to.
-#[derive(Clone, Copy)]
-pub enum Permitted {
-    To(Word),
-    Refused,
+// A first attempt is refused: read and write contend, a try ends with no.
+pub(crate) fn contend_or_no(writer: bool, blocking: bool) -> Next
+    ensures { result ≡ pick writer (try_write_refused blocking) (try_read_refused blocking) }
+{
+    if blocking {
+        Next::at(Place::ContendLoad { writer, reloads: 0 })
+    } else {
+        Next::end(Answer::No)
+    }
 }
 
-fn lock_rule(writer: bool, seen: Word) -> Permitted
+// The lock rule of the call, read_lock or write_lock: the word to compare to, where it permits.
+fn lock_rule(writer: bool, seen: Word) -> Option<Word>
     ensures { result ≡ permitted_of writer seen }
 {
     if writer {
-        return match seen.write_lock() {
-            WriteLocked::To(to) => Permitted::To(to),
-            WriteLocked::Refused => Permitted::Refused,
-        };
-    }
-    match seen.read_lock() {
-        ReadLocked::To(to) => Permitted::To(to),
-        ReadLocked::Refused => Permitted::Refused,
+        seen.write_lock()
+    } else {
+        seen.read_lock()
     }
 }
 
@@ -35,22 +38,22 @@ fn granted(writer: bool, holding: Holding) -> Holding
     ensures { result ≡ granted_of writer holding }
 {
     if writer {
-        return holding.granted_write();
+        holding.granted_write()
+    } else {
+        holding.granted_read()
     }
-    holding.granted_read()
 }
 
 // The optimistic paths are spent: fill the node, and register it next.
 fn fill(v: View, writer: bool, reloads: u8, seen: Word) -> Stepped
     ensures { result ≡ fill_of v writer reloads seen }
 {
-    let node = Node::filled(v.me, writer, seen);
     v.links(
-        node,
+        Node::filled(v.me, writer, seen),
         Next::at(Place::RegisterCas {
-            writer: writer,
-            reloads: reloads,
-            seen: seen,
+            writer,
+            reloads,
+            seen,
         }),
     )
 }
@@ -59,28 +62,26 @@ fn fill(v: View, writer: bool, reloads: u8, seen: Word) -> Stepped
 fn reload_or_fill(v: View, writer: bool, reloads: u8, seen: Word) -> Stepped
     ensures { result ≡ reload_or_fill v writer reloads seen }
 {
-    if seen.queued() {
-        return fill(v, writer, reloads, seen);
-    }
-    if reloads < SPIN_COUNT {
-        return v.stays(Next::at(Place::ContendLoad {
-            writer: writer,
+    if !seen.queued() && reloads < SPIN_COUNT {
+        v.stays(Next::at(Place::ContendLoad {
+            writer,
             reloads: reloads + 1,
-        }));
+        }))
+    } else {
+        fill(v, writer, reloads, seen)
     }
-    fill(v, writer, reloads, seen)
 }
 
 fn contend_judged(v: View, writer: bool, reloads: u8, seen: Word) -> Stepped
     ensures { result ≡ contend_judged v writer reloads seen }
 {
     match lock_rule(writer, seen) {
-        Permitted::To(_) => v.stays(Next::at(Place::ContendCas {
-            writer: writer,
-            reloads: reloads,
-            seen: seen,
+        Some(_) => v.stays(Next::at(Place::ContendCas {
+            writer,
+            reloads,
+            seen,
         })),
-        Permitted::Refused => reload_or_fill(v, writer, reloads, seen),
+        None => reload_or_fill(v, writer, reloads, seen),
     }
 }
 
@@ -93,34 +94,25 @@ pub fn contend_load(v: View, writer: bool, reloads: u8) -> Stepped
 pub fn contend_cas(v: View, writer: bool, reloads: u8, seen: Word) -> Stepped
     ensures { result ≡ contend_cas_of v writer reloads seen }
 {
-    if v.agrees(seen) {
-        return match lock_rule(writer, seen) {
-            Permitted::To(to) => {
-                let h = v.holding;
-                v.writes(to, granted(writer, h), Next::end(Answer::Done))
-            }
-            Permitted::Refused => contend_judged(v, writer, reloads, v.word),
-        };
+    if v.agrees(seen)
+        && let Some(to) = lock_rule(writer, seen)
+    {
+        v.writes(to, granted(writer, v.holding), Next::end(Answer::Done))
+    } else {
+        contend_judged(v, writer, reloads, v.word)
     }
-    contend_judged(v, writer, reloads, v.word)
 }
 
 // The node is registered: whoever turned QUEUE_LOCKED on unlocks the queue, the others wait.
 fn after_register(writer: bool, seen: Word, to: Word) -> Next
     ensures { result ≡ after_register writer seen to }
 {
-    if seen.queued() {
-        if seen.queue_locked() {
-            return Next::at(Place::CompletedLoad { writer: writer });
-        }
-        return Next::walk_from(
-            Walk::Queue {
-                who: Who::Waiter { writer: writer },
-            },
-            to,
-        );
+    if seen.queued() && !seen.queue_locked() {
+        let who = Who::Waiter { writer };
+        Next::walk_from(Walk::Queue { who }, to)
+    } else {
+        Next::at(Place::CompletedLoad { writer })
     }
-    Next::at(Place::CompletedLoad { writer: writer })
 }
 
 pub fn register_cas(v: View, writer: bool, reloads: u8, seen: Word) -> Stepped
@@ -128,8 +120,8 @@ pub fn register_cas(v: View, writer: bool, reloads: u8, seen: Word) -> Stepped
 {
     if v.agrees(seen) {
         let to = seen.registered(v.me);
-        let h = v.holding;
-        return v.writes(to, h, after_register(writer, seen, to));
+        v.writes(to, v.holding, after_register(writer, seen, to))
+    } else {
+        contend_judged(v, writer, reloads, v.word)
     }
-    contend_judged(v, writer, reloads, v.word)
 }

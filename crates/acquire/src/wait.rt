@@ -8,23 +8,19 @@ use state::{Next, Place, Stepped, View};
 pub fn completed_load(v: View, writer: bool) -> Stepped
     ensures { result ≡ completed_load_of v writer }
 {
-    let node = v.node;
-    if node.completed {
-        return v.stays(Next::at(Place::ContendLoad {
-            writer: writer,
-            reloads: 0,
-        }));
-    }
-    v.stays(Next::at(Place::Park { writer: writer }))
+    v.stays(Next::at(if v.node.completed {
+        Place::ContendLoad { writer, reloads: 0 }
+    } else {
+        Place::Park { writer }
+    }))
 }
 
 // park consumes the token; returning for no cause keeps it.
 pub fn park(v: View, writer: bool) -> Stepped
     ensures { result ≡ park_of v writer }
 {
-    let next = Next::at(Place::CompletedLoad { writer: writer });
-    if v.fails {
-        return v.parks(v.token, next);
-    }
-    v.parks(false, next)
+    v.parks(
+        v.fails && v.token,
+        Next::at(Place::CompletedLoad { writer }),
+    )
 }

@@ -2,44 +2,43 @@
 -- In order: no event is left; by the reply; any move; that every line fits.
 -- Not here: a move by itself (crate schedule, CursorLaws.antt); one event's lines (crate print, WholeLaws.antt).
 -- Assumes nothing.
-use Rattle.std.specs.Prelude.{ℕ, ◌+◌, ◌/◌, ◌<◌, ◌≤◌, Bool, List, [], ◌++◌, ◌≡◌, refl, length}
-use Rattle.std.proofs.Math.Bool.{true, false}
+use Rattle.std.specs.Prelude.{ℕ, ◌+◌, ◌/◌, ◌<◌, ◌≤◌, List, [], ◌++◌, ◌≡◌, refl, length, Err, Ok, Option, Some, None}
 use Rattle.std.proofs.Math.Path.{ap}
 use Rattle.std.proofs.Common.{◌∙◌, arith}
 use Rattle.std.proofs.Math.Decide.{dec_lt}
-use Rattle.word.specs.declared.number.Owner.{Owner}
+use Rattle.word.specs.declared.number.ThreadNumber.{ThreadNumber}
+use Rattle.state.specs.Answer.{Reply, accepted_with}
 use Rattle.state.specs.declared.answer.Answer.{Answer}
 use Rattle.state.specs.declared.answer.Refusal.{Refusal}
-use Rattle.state.specs.declared.answer.Reply.{Reply}
-use Rattle.state.specs.declared.answer.Reply.TheVariants.{Accepted, Refused}
 use Rattle.state.specs.declared.machine.Machine.{Machine}
 use Rattle.state.specs.declared.machine.Outcome.{Outcome}
 use Rattle.schedule.specs.File.{event_width}
-use Rattle.schedule.specs.Replay.{code_at, thread_at, event_at}
+use Rattle.schedule.specs.Replay.{event_at}
 use Rattle.schedule.specs.ReplayLaws.{ended_here, refused_here, accepted_here}
 use Rattle.schedule.specs.Whole.{file_ran_of}
-use Rattle.schedule.specs.Cursor.{moved_to, moved_of}
+use Rattle.schedule.specs.Cursor.{moved_to, moved_of, seen_of}
 use Rattle.schedule.specs.CursorLaws.{moved_ended, moved_refused, moved_accepted}
 use Rattle.schedule.specs.declared.cursor.Cursor.{Cursor}
 use Rattle.schedule.specs.declared.cursor.Moved.{Moved}
 use Rattle.schedule.specs.declared.cursor.Seen.{Seen}
-use Rattle.schedule.specs.declared.cursor.Seen.TheVariants.{Ended, Event}
 use Rattle.schedule.specs.declared.whole.FileStop.TheVariants as Stop
 use Rattle.print.specs.Text.{ascii}
 use Rattle.print.specs.Line.{line_width}
-use Rattle.print.specs.Replayed.{seen_text}
+use Rattle.print.specs.Replayed as Print
 use Rattle.print.specs.Shown.{event_text_short, stop_text_short}
 use Rattle.print.specs.Whole.{bytes_of}
 use Rattle.print.specs.WholeLaws.{lines_on, lines_ended, lines_on_lem}
 use Rattle.traced.specs.Event as Trace
 use Rattle.traced.specs.Fits.{trace_line_short}
 use Rattle.console.specs.Pages.{line_for, move_text, going_of, to_print, to_run, print_by, run_by, Further}
+use Rattle.console.specs.declared.pages.Lines.{Lines}
+use Rattle.console.specs.declared.pages.Lines.TheVariants.{Plain, Traced}
 
 -- what one move does
-pub record Moves (traced : Bool) (c : Cursor) (s : List ℕ) (moved : Moved) : Type 0 where
+pub record Moves (which : Lines) (c : Cursor) (s : List ℕ) (moved : Moved) : Type 0 where
   pub prints :
-      to_print traced c s
-      ≡ move_text traced c.at moved ++ ascii "\n" ++ print_by traced (going_of moved.seen) moved.cursor s
+      to_print which c s
+      ≡ move_text which c.at moved ++ ascii "\n" ++ print_by which (going_of moved.seen) moved.cursor s
   pub runs : to_run c s ≡ run_by (going_of moved.seen) moved.cursor s
   pub further : Further (going_of moved.seen) c moved.cursor s
 
@@ -47,16 +46,16 @@ module _ (c : Cursor) (s : List ℕ) where
   -- ── no event is left ──
 
   ended_prints :
-      (traced : Bool) → length s / event_width ≤ c.at
-      → to_print traced c s ≡ move_text traced c.at (moved_to c Ended) ++ ascii "\n" ++ []
+      (which : Lines) → length s / event_width ≤ c.at
+      → to_print which c s ≡ move_text which c.at (moved_to c None) ++ ascii "\n" ++ []
   unfolding bytes_of
-  ended_prints true h = ap bytes_of (lines_ended (line_for true) c.machine s c.at h)
-  ended_prints false h = ap bytes_of (lines_ended (line_for false) c.machine s c.at h)
+  ended_prints Traced h = ap bytes_of (lines_ended (line_for Traced) c.machine s c.at h)
+  ended_prints Plain h = ap bytes_of (lines_ended (line_for Plain) c.machine s c.at h)
 
-  ended : (traced : Bool) → length s / event_width ≤ c.at → Moves traced c s (moved_of c s)
-  ended traced h =
+  ended : (which : Lines) → length s / event_width ≤ c.at → Moves which c s (moved_of c s)
+  ended which h =
       let runs = ap file_ran_of (ended_here c.machine s c.at h) in
-      rw (moved_ended c s h) (record { prints = ended_prints traced h; runs = runs; further = tt })
+      rw (moved_ended c s h) (record { prints = ended_prints which h; runs = runs; further = tt })
 
   -- ── by the reply ──
 
@@ -64,72 +63,76 @@ module _ (c : Cursor) (s : List ℕ) where
     abbrev o : Outcome
     o = event_at c.machine s c.at
 
-    abbrev seen : Reply → Seen
-    seen reply = Event (code_at s c.at) (thread_at s c.at) reply
-
     abbrev on : Cursor
     on = record { machine = o.machine; at = c.at + 1 }
 
-    abbrev bytes_by : Bool → Reply → List ℕ
-    bytes_by traced reply = bytes_of (lines_on (line_for traced) c.machine s c.at reply)
+    abbrev bytes_by : Lines → Reply → List ℕ
+    bytes_by which reply = bytes_of (lines_on (line_for which) c.machine s c.at reply)
 
-    told : (traced : Bool) → to_print traced c s ≡ bytes_by traced o.reply
-    told traced = ap bytes_of (lines_on_lem (line_for traced) c.machine s c.at h)
+    told : (which : Lines) → to_print which c s ≡ bytes_by which o.reply
+    told which = ap bytes_of (lines_on_lem (line_for which) c.machine s c.at h)
 
-    module _ (refusal : Refusal) (r : o.reply ≡ Refused refusal) where
+    module _ (refusal : Refusal) (r : o.reply ≡ Err refusal) where
       refused_prints :
-          (traced : Bool)
-          → to_print traced c s ≡ move_text traced c.at (moved_to c (seen (Refused refusal))) ++ ascii "\n" ++ []
+          (which : Lines)
+          → to_print which c s ≡ move_text which c.at (moved_to c (seen_of c s (Err refusal))) ++ ascii "\n" ++ []
       unfolding bytes_of
-      refused_prints true = told true ∙ ap (bytes_by true) r
-      refused_prints false = told false ∙ ap (bytes_by false) r
+      refused_prints Traced = told Traced ∙ ap (bytes_by Traced) r
+      refused_prints Plain = told Plain ∙ ap (bytes_by Plain) r
 
-      refused : (traced : Bool) → Moves traced c s (moved_of c s)
-      refused traced =
-          let moved = moved_refused c s o h refl refusal r ∙ ap (λ (x : Reply). moved_to c (seen x)) r in
+      refused : (which : Lines) → Moves which c s (moved_of c s)
+      refused which =
+          let moved = moved_refused c s o h refl refusal r ∙ ap (λ (x : Reply). moved_to c (seen_of c s x)) r in
           let runs = ap file_ran_of (refused_here c.machine s c.at o h refl refusal r) in
-          rw moved (record { prints = refused_prints traced; runs = runs; further = tt })
+          rw moved (record { prints = refused_prints which; runs = runs; further = tt })
 
-    module _ (answer : Answer) (woken : Owner) (r : o.reply ≡ Accepted answer woken) where
+    module _ (answer : Answer) (woken : Option ThreadNumber) (r : o.reply ≡ accepted_with answer woken) where
       accepted_prints :
-          (traced : Bool)
-          → to_print traced c s
-          ≡ move_text traced c.at (moved_to on (seen (Accepted answer woken))) ++ ascii "\n" ++ to_print traced on s
+          (which : Lines)
+          → to_print which c s
+          ≡ move_text which c.at (moved_to on (seen_of c s (accepted_with answer woken)))
+          ++ ascii "\n" ++ to_print which on s
       unfolding bytes_of
-      accepted_prints true = told true ∙ ap (bytes_by true) r
-      accepted_prints false = told false ∙ ap (bytes_by false) r
+      accepted_prints Traced = told Traced ∙ ap (bytes_by Traced) r
+      accepted_prints Plain = told Plain ∙ ap (bytes_by Plain) r
 
-      accepted : (traced : Bool) → Moves traced c s (moved_of c s)
-      accepted traced =
-          let moved = moved_accepted c s o h refl answer woken r ∙ ap (λ (x : Reply). moved_to on (seen x)) r in
+      accepted : (which : Lines) → Moves which c s (moved_of c s)
+      accepted which =
+          let moved = moved_accepted c s o h refl answer woken r ∙ ap (λ (x : Reply). moved_to on (seen_of c s x)) r in
           let runs = ap file_ran_of (accepted_here c.machine s c.at o h refl answer woken r) in
-          rw moved (record { prints = accepted_prints traced; runs = runs; further = (omega arith, omega arith) })
+          rw moved (record { prints = accepted_prints which; runs = runs; further = (omega arith, omega arith) })
 
-    by_reply : (traced : Bool) (reply : Reply) → o.reply ≡ reply → Moves traced c s (moved_of c s)
-    by_reply traced (Refused refusal) r = refused refusal r traced
-    by_reply traced (Accepted answer woken) r = accepted answer woken r traced
+    by_reply : (which : Lines) (reply : Reply) → o.reply ≡ reply → Moves which c s (moved_of c s)
+    by_reply which (Err refusal) r = refused refusal r which
+    by_reply which (Ok told) r = accepted told.answer told.woken r which
 
   -- ── any move ──
 
-  by_place : (traced : Bool) → Dec (c.at < length s / event_width) → Moves traced c s (moved_of c s)
-  by_place traced (yes h) = by_reply h traced (event_at c.machine s c.at).reply refl
-  by_place traced (no h) = ended traced (omega arith)
+  by_place : (which : Lines) → Dec (c.at < length s / event_width) → Moves which c s (moved_of c s)
+  by_place which (yes h) = by_reply h which (event_at c.machine s c.at).reply refl
+  by_place which (no h) = ended which (omega arith)
 
-  pub moves : (traced : Bool) {moved : Moved} → moved ≡ moved_of c s → Moves traced c s moved
-  moves traced e = rw e (by_place traced (dec_lt c.at (length s / event_width)))
+  pub moves : (which : Lines) {moved : Moved} → moved ≡ moved_of c s → Moves which c s moved
+  moves which e = rw e (by_place which (dec_lt c.at (length s / event_width)))
 
 -- ── every line fits, with its end ──
 
-print_short : (at : ℕ) (seen : Seen) (m : Machine) → length (seen_text at seen m.word) < line_width
-print_short at Ended m = omega (arith, stop_text_short at Stop.Ran)
-print_short at (Event code t (Refused refusal)) m = omega (arith, stop_text_short at (Stop.Refused refusal))
-print_short at (Event code t (Accepted answer woken)) m = omega (arith, event_text_short at t answer woken m.word)
+print_short : (at : ℕ) (seen : Option Seen) (m : Machine) → length (Print.seen_text at seen m.word) < line_width
+print_short at None m = omega (arith, stop_text_short at (Ok tt))
+print_short at (Some seen) m = by seen.reply
+  where
+    by : (reply : Reply) → length (Print.replied_text at seen.thread reply m.word) < line_width
+    by (Err refusal) = omega (arith, stop_text_short at (Err (Stop.Refused refusal)))
+    by (Ok told) = omega (arith, event_text_short at seen.thread told.answer told.woken m.word)
 
-trace_short : (at : ℕ) (seen : Seen) (m : Machine) → length (Trace.seen_text at seen m) < line_width
-trace_short at Ended m = omega (arith, stop_text_short at Stop.Ran)
-trace_short at (Event code t (Refused refusal)) m = omega (arith, stop_text_short at (Stop.Refused refusal))
-trace_short at (Event code t (Accepted answer woken)) m = omega (arith, trace_line_short at t answer woken m)
+trace_short : (at : ℕ) (seen : Option Seen) (m : Machine) → length (Trace.seen_text at seen m) < line_width
+trace_short at None m = omega (arith, stop_text_short at (Ok tt))
+trace_short at (Some seen) m = by seen.reply
+  where
+    by : (reply : Reply) → length (Trace.replied_text at seen.thread reply m) < line_width
+    by (Err refusal) = omega (arith, stop_text_short at (Err (Stop.Refused refusal)))
+    by (Ok told) = omega (arith, trace_line_short at seen.thread told.answer told.woken m)
 
-pub move_short : (traced : Bool) (at : ℕ) (moved : Moved) → length (move_text traced at moved) < line_width
-move_short true at moved = trace_short at moved.seen moved.cursor.machine
-move_short false at moved = print_short at moved.seen moved.cursor.machine
+pub move_short : (which : Lines) (at : ℕ) (moved : Moved) → length (move_text which at moved) < line_width
+move_short Traced at moved = trace_short at moved.seen moved.cursor.machine
+move_short Plain at moved = print_short at moved.seen moved.cursor.machine

@@ -1,6 +1,6 @@
--- The threads' lines laid one after the other, as a trace ends; a print has none.
+-- The threads' lines laid one after the other, as a trace ends.
 -- Assumes nothing.
-use Rattle.std.specs.Prelude.{ℕ, suc, ◌+◌, ◌*◌, ◌≤◌, false, List, [], ◌∷◌, ◌++◌, ◌≡◌, refl, length, take}
+use Rattle.std.specs.Prelude.{ℕ, suc, ◌+◌, ◌*◌, ◌≤◌, List, [], ◌∷◌, ◌++◌, ◌≡◌, take}
 use Rattle.std.proofs.Common.{append-nil, sym, ap, ◌∙◌, arith}
 use Rattle.word.specs.Number.{thread}
 use Rattle.state.specs.declared.machine.Machine.{Machine}
@@ -10,22 +10,11 @@ use Rattle.print.specs.Whole.{bytes_of}
 use Rattle.print.specs.WholeLaws.{bytes_append}
 use Rattle.traced.specs.Thread.{thread_text}
 use Rattle.traced.specs.Whole.{thread_lines}
-use Rattle.console.specs.Runs.{end_lines}
-
-pub ends_none : (m : Machine) → 0 ≡ length (bytes_of (end_lines false m))
-unfolding bytes_of
-ends_none m = refl
 
 -- those of the first k threads are laid
-pub record LaysThreads (m : Machine) (first page : List ℕ) (at k : ℕ) : Type 0 where
-  pub below : k ≤ m.count
-  pub size : length page ≡ length first
+pub record LaysThreads (m : Machine) (page : List ℕ) (at k : ℕ) : Type 0 where
   pub within : at ≤ line_width * k
   pub bytes : take at page ≡ bytes_of (thread_lines k m)
-
-pub threads_none : (m : Machine) → [] ≡ bytes_of (thread_lines 0 m)
-unfolding thread_lines bytes_of
-threads_none m = refl
 
 pub threads_more :
     (k : ℕ) (m : Machine)

@@ -1,5 +1,5 @@
 // The bytes of a named file, of the one that the first argument names, or of standard input where there is none.
-ghost use Rattle.std.specs.Prelude.{◌≡◌, length};
+ghost use Rattle.std.specs.Prelude.{◌≡◌, ◌≤◌, length, IfOk};
 ghost use Rattle.console.specs.Input.{IsPrefixLen, ReadBy, unreadable_of};
 
 use crate::output::fail;
@@ -26,6 +26,7 @@ pub enum Reading {
     Unreadable,
 }
 
+// Not a Result: `ReadBy` and contracts' `receive_named_keeps_bytes_of_an_unreadable_file` say each reading's length.
 #[derive(Clone, Copy)]
 pub struct Received {
     pub length: usize,
@@ -42,42 +43,47 @@ fn unreadable(rt: &(impl Eprint + AllocGlobal), what: &str, error: io::Error) ->
     }
 }
 
-// A read of no bytes is the end of the input.
-fn read(
-    rt: &(impl Eprint + AllocGlobal),
-    from: &mut impl Read,
-    name: &str,
-    bytes: &mut [u8],
-) -> Received
-    ensures prefix_len { IsPrefixLen result.length bytes.new }
-    ensures read_by { ReadBy result.reading result.length (length bytes.new) }
+// How many bytes were put at the start: as many as there were before the end, a read of none, or all that were lent.
+fn read(from: &mut impl Read, bytes: &mut [u8]) -> io::Result<usize>
+    ensures { IfOk result (λ n. n ≤ length bytes.new) }
 {
-    let mut length: usize = 0;
+    let mut length = 0;
     while length < bytes.len() {
-        match from.read(&mut bytes[length..]) {
-            Ok(0) => {
-                return Received {
-                    length: length,
-                    reading: Reading::Whole,
-                };
-            }
-            Ok(more) => length = length + more,
-            Err(error) => return unreadable(rt, name, error),
+        match from.read(&mut bytes[length..])? {
+            0 => break,
+            more => length += more,
         }
     }
-    Received {
-        length: length,
-        reading: Reading::Full,
-    }
+    Ok(length)
 }
 
-fn receive_text(rt: &(impl Files + Eprint + AllocGlobal), path: &str, bytes: &mut [u8]) -> Received
-    ensures prefix_len { IsPrefixLen result.length bytes.new }
-    ensures read_by { ReadBy result.reading result.length (length bytes.new) }
+fn read_file(rt: &impl Files, path: &str, bytes: &mut [u8]) -> io::Result<usize>
+    ensures { IfOk result (λ n. n ≤ length bytes.new) }
 {
-    match fs::open(rt, path) {
-        Ok(mut file) => read(rt, &mut file, path, bytes),
-        Err(error) => unreadable(rt, path, error),
+    read(&mut fs::open(rt, path)?, bytes)
+}
+
+// How a reading under that name ended, and how much of the bytes that were lent it put.
+fn answer(
+    rt: &(impl Eprint + AllocGlobal),
+    name: &str,
+    read: io::Result<usize>,
+    bytes: &[u8],
+) -> Received
+    requires { IfOk read (λ n. n ≤ length bytes.now) }
+    ensures prefix_len { IsPrefixLen result.length bytes.now }
+    ensures read_by { ReadBy result.reading result.length (length bytes.now) }
+{
+    match read {
+        Ok(length) => {
+            let reading = if length < bytes.len() {
+                Reading::Whole
+            } else {
+                Reading::Full
+            };
+            Received { length, reading }
+        }
+        Err(error) => unreadable(rt, name, error),
     }
 }
 
@@ -91,12 +97,11 @@ pub fn receive_named(
     ensures read_by { ReadBy result.reading result.length (length bytes.new) }
 {
     match str::from_utf8(path) {
-        Ok(text) => receive_text(rt, text, bytes),
-        Err(_) => unreadable(
-            rt,
-            "file name",
-            io::Error::from(io::ErrorKind::InvalidFilename),
-        ),
+        Ok(name) => {
+            let read = read_file(rt, name, bytes);
+            answer(rt, name, read, bytes)
+        }
+        Err(_) => unreadable(rt, "file name", io::ErrorKind::InvalidFilename.into()),
     }
 }
 
@@ -116,7 +121,10 @@ pub fn receive(rt: &(impl Env + Input + Files + Eprint + AllocGlobal), bytes: &m
     ensures read_by { ReadBy result.reading result.length (length bytes.new) }
 {
     match rt.arg(1, &mut []) {
-        Err(FillError::NotPresent) => read(rt, &mut rt.reader(), "standard input", bytes),
+        Err(FillError::NotPresent) => {
+            let read = read(&mut rt.reader(), bytes);
+            answer(rt, "standard input", read, bytes)
+        }
         _ => argument(rt, bytes),
     }
 }

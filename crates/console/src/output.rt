@@ -37,22 +37,16 @@ fn write(rt: &(impl Print + Eprint + AllocGlobal), bytes: &[u8]) {
 pub(crate) fn flush(rt: &(impl Print + Eprint + AllocGlobal), page: &[u8], at: usize) -> usize
     ensures { result ≡ written_of (length page.now) at }
 {
-    if at < page.len() {
-        write(rt, &page[..at]);
-        return at;
-    }
-    write(rt, page);
-    page.len()
+    let length = at.min(page.len());
+    write(rt, &page[..length]);
+    length
 }
 
 // Does any line fit from `at` on?
 pub(crate) fn has_room(size: usize, at: usize) -> bool
     ensures { result ≡ has_room size at }
 {
-    if at <= size {
-        return WIDTH <= size - at;
-    }
-    false
+    at <= size && WIDTH <= size - at
 }
 
 // Lays a line and its end, and answers where the next goes.

@@ -7,20 +7,19 @@ ghost use Rattle.print.specs.Whole.{bytes_of, print_bytes};
 ghost use Rattle.traced.specs.Whole.{thread_lines, trace_bytes};
 ghost use Rattle.console.specs.Output.{page_size};
 ghost use Rattle.console.specs.Runs.{printed_of, refused_printed, received_bytes};
-ghost use Rattle.console.specs.Runs.{end_lines, ran_printed, file_printed};
+ghost use Rattle.console.specs.Runs.{end_lines, ran_printed, file_bytes, file_printed};
 
 use crate::input::Reading;
 use crate::output::{flush, lay_line, write_line};
-use crate::pages::{Going, fill};
+use crate::pages::{Lines, PAGE, fill};
 use print::replayed::refused_line;
 use schedule::file::{check, events};
-use schedule::{Checked, Cursor, FileRefusal, FileReplayed, FileStop};
+use schedule::whole::nothing_run;
+use schedule::{Cursor, FileRefusal, FileReplayed, Replayed};
 use state::Machine;
+use std::ops::ControlFlow;
 use traced::thread::thread_line;
 use word::ThreadNumber;
-
-// The pages that lines are laid on.
-const PAGE: usize = 65536;
 
 // What a file's replay came to, and how many bytes were written of it.
 #[derive(Clone, Copy)]
@@ -30,101 +29,91 @@ pub struct Printed {
 }
 
 // A line for each thread.
-fn threads(m: Machine, page: &mut [u8]) -> usize
-    requires { length page.old ≡ page_size }
-    ensures upper_bound { result ≤ length page.new }
+#[tactic(auto, unfolding(traced::specs::Whole::thread_lines, print::specs::Whole::bytes_of))]
+fn threads(m: Machine, page: &mut [u8; PAGE]) -> usize
+    ensures upper_bound { result ≤ page_size }
     ensures page_after { take result page.new ≡ bytes_of (thread_lines m.count m) }
 {
-    let mut at: usize = 0;
-    let mut k: u8 = 0;
-    while k < m.count {
+    let mut at = 0;
+    for k in 0..m.count {
         at = lay_line(page, at, thread_line(m, ThreadNumber(k)));
-        k = k + 1;
     }
     at
 }
 
 // The trace's last lines, and how many bytes they are.
+#[tactic(auto, unfolding(print::specs::Whole::bytes_of))]
 fn last(
     rt: &(impl Print + Eprint + AllocGlobal),
-    traced: bool,
+    which: Lines,
     m: Machine,
-    page: &mut [u8],
+    page: &mut [u8; PAGE],
 ) -> usize
-    requires { length page.old ≡ page_size }
-    ensures value { result ≡ length (bytes_of (end_lines traced m)) }
+    ensures value { result ≡ length (bytes_of (end_lines which m)) }
     ensures upper_bound { result ≤ page_size }
 {
-    if traced {
-        let at = threads(m, page);
-        return flush(rt, page, at);
+    match which {
+        Lines::Plain => 0,
+        Lines::Traced => {
+            let at = threads(m, page);
+            flush(rt, page, at)
+        }
     }
-    0
 }
 
 // Page after page, until the replay is over.
 fn run(
     rt: &(impl Print + Eprint + AllocGlobal),
-    traced: bool,
+    which: Lines,
     first: Machine,
     s: &[u8],
-    page: &mut [u8],
+    page: &mut [u8; PAGE],
 ) -> Printed
-    requires { (length page.old ≡ page_size) × (length s.now ≤ event_width * event_limit) }
-    ensures { result ≡ ran_printed traced first s.now }
+    requires { length s.now ≤ event_width * event_limit }
+    ensures { result ≡ ran_printed which first s.now }
 {
     let mut cursor = Cursor::start(first);
-    let mut bytes: usize = 0;
+    let mut bytes = 0;
     loop {
-        let filled = fill(traced, cursor, s, page);
-        bytes = bytes + flush(rt, page, filled.at);
-        let going = filled.going;
-        let on = filled.cursor;
-        if let Going::Over(stop) = going {
-            let machine = on.machine;
-            let more = last(rt, traced, machine, page);
-            let replayed = FileReplayed {
-                machine: machine,
-                run: on.at,
-                stop: stop,
+        let filled = fill(which, cursor, s, page);
+        bytes += flush(rt, page, filled.at);
+        cursor = filled.cursor;
+        if let ControlFlow::Break(stop) = filled.going {
+            let machine = cursor.machine;
+            let replayed = Replayed {
+                machine,
+                run: cursor.at,
+                stop,
             };
             return Printed {
-                replayed: replayed,
-                bytes: bytes + more,
+                replayed,
+                bytes: bytes + last(rt, which, machine, page),
             };
         }
-        cursor = on;
     }
 }
 
 // A refused file's one line.
+#[tactic(auto, using(crate::specs::Written::refused_written))]
 fn refused(rt: &(impl Print + Eprint + AllocGlobal), refusal: FileRefusal) -> Printed
     ensures { result ≡ refused_printed refusal }
 {
-    let bytes = write_line(rt, refused_line(refusal.number()));
-    let fresh = Machine::fresh(1);
-    let machine = fresh.machine;
-    let replayed = FileReplayed {
-        machine: machine,
-        run: 0,
-        stop: FileStop::File(refusal),
-    };
     Printed {
-        replayed: replayed,
-        bytes: bytes,
+        replayed: nothing_run(refusal),
+        bytes: write_line(rt, refused_line(refusal.number())),
     }
 }
 
-fn file(rt: &(impl Print + Eprint + AllocGlobal), traced: bool, s: &[u8]) -> Printed
-    ensures { result ≡ file_printed traced s.now }
+#[tactic(auto, using(crate::specs::Printing::events_most, crate::specs::Printing::file_accepted))]
+fn file(rt: &(impl Print + Eprint + AllocGlobal), which: Lines, s: &[u8]) -> Printed
+    ensures { result ≡ file_printed which s.now }
 {
-    let checked = check(s);
-    match checked {
-        Checked::Refused(refusal) => refused(rt, refusal),
-        Checked::Accepted { threads, events: _ } => {
-            let fresh = Machine::fresh(threads);
+    match check(s) {
+        Err(refusal) => refused(rt, refusal),
+        Ok(head) => {
+            let machine = Machine::fresh(head.threads).machine;
             let mut page = [0u8; PAGE];
-            run(rt, traced, fresh.machine, events(s), &mut page)
+            run(rt, which, machine, events(s), &mut page)
         }
     }
 }
@@ -133,14 +122,14 @@ fn file(rt: &(impl Print + Eprint + AllocGlobal), traced: bool, s: &[u8]) -> Pri
 pub fn replay(rt: &(impl Print + Eprint + AllocGlobal), s: &[u8]) -> Printed
     ensures { result ≡ printed_of (file_replay_of s.now) (print_bytes s.now) }
 {
-    file(rt, false, s)
+    file(rt, Lines::Plain, s)
 }
 
 // The same with the waiters and the reader count, and a line for each thread at the end (docs/TRACE.md).
 pub fn trace(rt: &(impl Print + Eprint + AllocGlobal), s: &[u8]) -> Printed
     ensures { result ≡ printed_of (file_replay_of s.now) (trace_bytes s.now) }
 {
-    file(rt, true, s)
+    file(rt, Lines::Traced, s)
 }
 
 // What is printed for a file of more bytes than are looked at.
@@ -148,6 +137,21 @@ pub fn too_long(rt: &(impl Print + Eprint + AllocGlobal)) -> Printed
     ensures { result ≡ refused_printed TooMany }
 {
     refused(rt, FileRefusal::TooMany)
+}
+
+fn received(
+    rt: &(impl Print + Eprint + AllocGlobal),
+    which: Lines,
+    reading: Reading,
+    s: &[u8],
+) -> usize
+    ensures { result ≡ length (received_bytes (file_bytes which) reading s.now) }
+{
+    match reading {
+        Reading::Unreadable => 0,
+        Reading::Full => too_long(rt).bytes,
+        Reading::Whole => file(rt, which, s).bytes,
+    }
 }
 
 // The print of a file by what was read of it, and how many bytes that is.
@@ -158,20 +162,12 @@ pub fn replay_received(
 ) -> usize
     ensures { result ≡ length (received_bytes print_bytes reading s.now) }
 {
-    match reading {
-        Reading::Unreadable => 0,
-        Reading::Full => too_long(rt).bytes,
-        Reading::Whole => replay(rt, s).bytes,
-    }
+    received(rt, Lines::Plain, reading, s)
 }
 
 // The trace, likewise.
 pub fn trace_received(rt: &(impl Print + Eprint + AllocGlobal), reading: Reading, s: &[u8]) -> usize
     ensures { result ≡ length (received_bytes trace_bytes reading s.now) }
 {
-    match reading {
-        Reading::Unreadable => 0,
-        Reading::Full => too_long(rt).bytes,
-        Reading::Whole => trace(rt, s).bytes,
-    }
+    received(rt, Lines::Traced, reading, s)
 }

@@ -2,7 +2,7 @@
 -- rule out; each for every handle `rt`, of every type with the function's bounds. Input, output, then whole runs. Not
 -- determined is what `receive` and `receive_named` read: by what the system answers. What reaches standard output no
 -- contract can say. Assumes nothing.
-use Rattle.std.specs.Prelude.{ℕ, true, refl, List, [], ◌∷◌}
+use Rattle.std.specs.Prelude.{ℕ, true, refl, List, [], ◌∷◌, Ok}
 use Rattle.std.specs.Borrow.{Bor, MutBor}
 use Rattle.std.specs.declared.alloc.Allocator
 use Rattle.std.specs.declared.alloc.Global.{Global}
@@ -33,7 +33,6 @@ use Rattle.schedule.specs.File.{checked_of}
 use Rattle.schedule.specs.Replay.{replay_of}
 use Rattle.schedule.specs.Whole.{file_refused_of}
 use Rattle.schedule.specs.declared.file.FileRefusal.TheVariants.{Length, TooMany}
-use Rattle.schedule.specs.declared.whole.FileStop.TheVariants as FileStops
 use Rattle.print.specs.Line.{put_all, line_of, blank_of}
 use Rattle.print.specs.Text.{ascii, decimal_by}
 use Rattle.print.specs.Whole.{event_lines, bytes_of}
@@ -136,7 +135,7 @@ printed run bytes =
           record {
             machine = machine_of 1 0 [] (thread_of (At.TryWriteOr true) Holds.Nothing ∷ []);
             run = run;
-            stop = FileStops.Ran;
+            stop = Ok tt;
           };
       bytes = bytes;
     }

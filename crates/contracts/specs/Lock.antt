@@ -2,20 +2,19 @@
 -- out. Codes; what an event looks at, and what it decides by that; one event. What every event keeps to, on every
 -- machine, is crate promises' subject.
 -- Assumes nothing.
-use Rattle.std.specs.Prelude.{ℕ, true, refl, [], ◌∷◌}
+use Rattle.std.specs.Prelude.{ℕ, true, refl, [], ◌∷◌, Err, Some, Option, None}
 use Rattle.std.proofs.lemmas.Bool.{false≢true}
 use Rattle.word.specs.Flags.{word}
 use Rattle.word.specs.Number.{node, none, thread}
-use Rattle.word.specs.declared.number.Owner.{Owner}
-use Rattle.word.specs.declared.number.Owner.TheVariants as Owners
 use Rattle.word.specs.declared.number.ThreadNumber.{ThreadNumber}
+use Rattle.state.specs.Answer.{accepted_with}
+use Rattle.state.specs.Replies.{answer_in}
 use Rattle.state.specs.Access.{access_of}
 use Rattle.state.specs.Machine.{blank_thread, thread_at, node_at, refused_of}
 use Rattle.state.specs.Node.{blank_node, filled_of, with_completed}
 use Rattle.state.specs.declared.answer.Answer.{Answer}
 use Rattle.state.specs.declared.answer.Answer.TheVariants.{Begun, Done, Went}
 use Rattle.state.specs.declared.answer.Refusal.TheVariants.{NoThread, NotInCall, UnknownCode}
-use Rattle.state.specs.declared.answer.Reply.TheVariants as Replies
 use Rattle.state.specs.declared.holding.Holding.{Holding}
 use Rattle.state.specs.declared.holding.Holding.TheVariants as Holds
 use Rattle.state.specs.declared.machine.Machine.{Machine}
@@ -27,7 +26,6 @@ use Rattle.state.specs.declared.place.Place.TheVariants as At
 use Rattle.state.specs.declared.place.Walk.TheVariants.{Queue}
 use Rattle.state.specs.declared.place.Who.TheVariants.{Waiter, Leaver}
 use Rattle.state.specs.declared.view.Mark.TheVariants.{Missing}
-use Rattle.state.specs.declared.view.Stepped.TheVariants as Steps
 use Rattle.lock.specs.Advance.{advance_of}
 use Rattle.lock.specs.Decide.{event_verdict, decide_of}
 use Rattle.lock.specs.Event.{event_of}
@@ -48,13 +46,13 @@ use Rattle.contracts.specs.Examples.{machine_of, thread_of}
 pub code_of_determined : (code : ℕ) → Determined (Allows code_of.Post (code & tt))
 code_of_determined code = determined
 
-pub code_of_seven_begins : Allows code_of.Post (7 & tt) (Codes.Begin Calls.Downgrade) → ⊥
+pub code_of_seven_begins : Allows code_of.Post (7 & tt) (Some (Codes.Begin Calls.Downgrade)) → ⊥
 code_of_seven_begins e = clash (cc)
 
-pub code_of_sixteen_fails : Allows code_of.Post (16 & tt) Codes.Fail → ⊥
+pub code_of_sixteen_fails : Allows code_of.Post (16 & tt) (Some Codes.Fail) → ⊥
 code_of_sixteen_fails e = clash (cc)
 
-pub code_of_four_and_five_swapped : Allows code_of.Post (4 & tt) (Codes.Begin Calls.WriteUnlock) → ⊥
+pub code_of_four_and_five_swapped : Allows code_of.Post (4 & tt) (Some (Codes.Begin Calls.WriteUnlock)) → ⊥
 code_of_four_and_five_swapped e = clash (cc)
 
 -- ── look, decide ──
@@ -98,12 +96,12 @@ absent count =
     }
 
 pub decide_asks_for_the_thread_before_the_code :
-    Allows decide.Post (absent 1 & 7 & tt) (Steps.Refused NoThread) → ⊥
+    Allows decide.Post (absent 1 & 7 & tt) (Err NoThread) → ⊥
 unfolding decide_of event_verdict
 decide_asks_for_the_thread_before_the_code e = clash (cc)
 
 pub decide_asks_for_the_code_before_the_count :
-    Allows decide.Post (absent 0 & 7 & tt) (Steps.Refused UnknownCode) → ⊥
+    Allows decide.Post (absent 0 & 7 & tt) (Err UnknownCode) → ⊥
 unfolding decide_of event_verdict
 decide_asks_for_the_code_before_the_count e = clash (cc)
 
@@ -121,38 +119,38 @@ alone = machine_of 1 0 [] []
 abbrev standing : ℕ → Place → Holding → Machine
 standing w p h = machine_of 1 w [] (thread_of p h ∷ [])
 
-abbrev accepted : Answer → Owner → Machine → Outcome
-accepted answer woken m = record { machine = m; reply = Replies.Accepted answer woken }
+abbrev accepted : Answer → Option ThreadNumber → Machine → Outcome
+accepted answer woken m = record { machine = m; reply = accepted_with answer woken }
 
 pub event_refuses_everything : Allows event.Post (alone & 0 & thread 0 & tt) (refused_of alone UnknownCode) → ⊥
 unfolding event_of access_of
 event_refuses_everything = apart_in (λ o. o.reply) (λ e. clash (cc))
 
-pub event_never_moves : Allows event.Post (alone & 0 & thread 0 & tt) (accepted Begun Owners.Nobody alone) → ⊥
+pub event_never_moves : Allows event.Post (alone & 0 & thread 0 & tt) (accepted Begun None alone) → ⊥
 unfolding event_of access_of
 event_never_moves = apart_in (λ o. (thread_at o.machine 0).place) (λ e. clash (cc))
 
 pub event_try_write_blocks :
     Allows event.Post (alone & 3 & thread 0 & tt)
-    (accepted Begun Owners.Nobody (standing 0 (At.TryWriteOr true) Holds.Nothing)) → ⊥
+    (accepted Begun None (standing 0 (At.TryWriteOr true) Holds.Nothing)) → ⊥
 unfolding event_of access_of
 event_try_write_blocks = apart_in (λ o. (thread_at o.machine 0).place) (λ e. clash (cc))
 
 pub event_finishes_at_the_first_step :
     Allows event.Post (standing 0 (At.TryReadLoad true) Holds.Nothing & 16 & thread 0 & tt)
-    (accepted Done Owners.Nobody (standing 17 At.Idle Holds.Read)) → ⊥
+    (accepted Done None (standing 17 At.Idle Holds.Read)) → ⊥
 unfolding event_of step_of advance_of access_of marked_of
-event_finishes_at_the_first_step = apart_in (λ o. o.reply) (λ e. clash (cc))
+event_finishes_at_the_first_step = apart_in (λ o. answer_in o.reply) (λ e. clash (cc))
 
 pub event_fails_a_strong_compare :
     Allows event.Post (standing 1 At.WriteUnlockCas Holds.Write & 17 & thread 0 & tt)
-    (accepted Went Owners.Nobody (standing 1 (At.ReleaseCas (word 1)) Holds.Write)) → ⊥
+    (accepted Went None (standing 1 (At.ReleaseCas (word 1)) Holds.Write)) → ⊥
 unfolding event_of step_of advance_of access_of marked_of
 event_fails_a_strong_compare = apart_in (λ o. o.reply) (λ e. clash (cc))
 
 pub event_sleeps_without_a_token :
     Allows event.Post (standing 18 (At.Park true) Holds.Nothing & 16 & thread 0 & tt)
-    (accepted Went Owners.Nobody (standing 18 (At.CompletedLoad true) Holds.Nothing)) → ⊥
+    (accepted Went None (standing 18 (At.CompletedLoad true) Holds.Nothing)) → ⊥
 unfolding event_of step_of advance_of access_of marked_of
 event_sleeps_without_a_token = apart_in (λ o. o.reply) (λ e. clash (cc))
 
@@ -169,7 +167,7 @@ event_refused_changes_the_word = apart_by (λ o. o.machine.word.0) refl
 -- a thread that completes its own node wakes itself
 pub event_loses_the_token_of_a_self_wake :
     Allows event.Post (standing 0 (At.WakeStore (Waiter true) (node 1) none) Holds.Nothing & 16 & thread 0 & tt)
-    (accepted Went (Owners.Thread (thread 0))
+    (accepted Went (Some (thread 0))
     (machine_of 1 0 (with_completed blank_node ∷ []) (thread_of (At.CompletedLoad true) Holds.Nothing ∷ []))) → ⊥
 unfolding event_of step_of advance_of access_of marked_of
 event_loses_the_token_of_a_self_wake = apart_in (λ o. (thread_at o.machine 0).token) false≢true

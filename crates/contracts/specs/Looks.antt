@@ -1,15 +1,13 @@
 -- What to look at in a result to tell it from another: a number or a part of it, by crate. Of a refusal, 0 or the like.
 -- Assumes nothing.
-use Rattle.std.specs.Prelude.{ℕ, Bool, false, get_or}
+use Rattle.std.specs.Prelude.{ℕ, Bool, false, get_or, Err, Ok, Option, Some, None}
 use Rattle.word.specs.Number.{thread}
 use Rattle.word.specs.declared.flags.Word.{Word}
 use Rattle.word.specs.declared.number.NodeNumber.{NodeNumber}
-use Rattle.word.specs.declared.number.Owner.{Owner}
-use Rattle.word.specs.declared.number.Owner.TheVariants as Owners
-use Rattle.word.specs.declared.rules.ReadLocked.{ReadLocked}
-use Rattle.word.specs.declared.rules.ReadLocked.TheVariants as ReadLocks
 use Rattle.word.specs.declared.rules.ReadUnlocked.{ReadUnlocked}
 use Rattle.word.specs.declared.rules.ReadUnlocked.TheVariants as ReadUnlocks
+use Rattle.word.specs.declared.number.ThreadNumber.{ThreadNumber}
+use Rattle.state.specs.View.{Stepped}
 use Rattle.state.specs.Access.{access_of, touched_of}
 use Rattle.state.specs.Node.{blank_node}
 use Rattle.state.specs.declared.answer.Answer.{Answer}
@@ -19,8 +17,6 @@ use Rattle.state.specs.declared.holding.Holding.TheVariants as Holds
 use Rattle.state.specs.declared.node.Node.{Node}
 use Rattle.state.specs.declared.place.Place.{Place}
 use Rattle.state.specs.declared.place.Place.TheVariants as At
-use Rattle.state.specs.declared.view.Stepped.{Stepped}
-use Rattle.state.specs.declared.view.Stepped.TheVariants as Steps
 use Rattle.print.specs.declared.line.Line.{Line}
 
 -- ── crate word ──
@@ -31,13 +27,13 @@ word_number w = w.0
 abbrev pub node_number : NodeNumber → ℕ
 node_number n = n.0
 
-abbrev pub owner_number : Owner → ℕ
-owner_number Owners.Nobody = 0
-owner_number (Owners.Thread t) = t.0
+abbrev pub owner_number : Option ThreadNumber → ℕ
+owner_number None = 0
+owner_number (Some t) = t.0
 
-abbrev pub read_locked_word : ReadLocked → ℕ
-read_locked_word (ReadLocks.To w) = w.0
-read_locked_word ReadLocks.Refused = 0
+abbrev pub read_locked_word : Option Word → ℕ
+read_locked_word (Some w) = w.0
+read_locked_word None = 0
 
 abbrev pub read_unlocked_word : ReadUnlocked → ℕ
 read_unlocked_word (ReadUnlocks.To w) = w.0
@@ -47,32 +43,32 @@ read_unlocked_word ReadUnlocks.Refused = 0
 -- ── crate state ──
 
 abbrev pub place_after : Stepped → Place
-place_after (Steps.To c) = c.thread.place
-place_after (Steps.Refused r) = At.Idle
+place_after (Ok c) = c.thread.place
+place_after (Err r) = At.Idle
 
 abbrev pub answer_after : Stepped → Answer
-answer_after (Steps.To c) = c.answer
-answer_after (Steps.Refused r) = Went
+answer_after (Ok c) = c.answer
+answer_after (Err r) = Went
 
-abbrev pub woken_by : Stepped → Owner
-woken_by (Steps.To c) = c.woken
-woken_by (Steps.Refused r) = Owners.Nobody
+abbrev pub woken_by : Stepped → Option ThreadNumber
+woken_by (Ok c) = c.woken
+woken_by (Err r) = None
 
 abbrev pub holding_after : Stepped → Holding
-holding_after (Steps.To c) = c.thread.holding
-holding_after (Steps.Refused r) = Holds.Nothing
+holding_after (Ok c) = c.thread.holding
+holding_after (Err r) = Holds.Nothing
 
 abbrev pub token_after : Stepped → Bool
-token_after (Steps.To c) = c.thread.token
-token_after (Steps.Refused r) = false
+token_after (Ok c) = c.thread.token
+token_after (Err r) = false
 
 abbrev pub word_after : Stepped → ℕ
-word_after (Steps.To c) = c.word.0
-word_after (Steps.Refused r) = 0
+word_after (Ok c) = c.word.0
+word_after (Err r) = 0
 
 abbrev pub node_after : Stepped → Node
-node_after (Steps.To c) = c.node
-node_after (Steps.Refused r) = blank_node
+node_after (Ok c) = c.node
+node_after (Err r) = blank_node
 
 abbrev pub next_after : Stepped → ℕ
 next_after s = (node_after s).next.0

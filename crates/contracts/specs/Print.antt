@@ -1,21 +1,17 @@
 -- The contracts of crate print: each public function's result is determined, and of the one that lays a line the page
 -- at exit too; and wrong answers that its contract rules out. Lines, the page, document 01's lines. Assumes nothing.
-use Rattle.std.specs.Prelude.{ℕ, ◌≡◌, refl, List, [], ◌∷◌, get_or}
+use Rattle.std.specs.Prelude.{ℕ, ◌≡◌, refl, List, [], ◌∷◌, get_or, Err, Option, Some, None}
 use Rattle.std.specs.Borrow.{Bor, MutBor}
 use contract.Lifetimes.{Lfts}
 use Rattle.word.specs.Flags.{word}
 use Rattle.word.specs.Number.{thread}
 use Rattle.word.specs.declared.flags.Word.{Word}
-use Rattle.word.specs.declared.number.Owner.{Owner}
-use Rattle.word.specs.declared.number.Owner.TheVariants as Owners
 use Rattle.word.specs.declared.number.ThreadNumber.{ThreadNumber}
 use Rattle.state.specs.declared.answer.Answer.{Answer}
 use Rattle.state.specs.declared.answer.Answer.TheVariants.{Begun, Went}
 use Rattle.state.specs.declared.answer.Refusal.TheVariants.{InsideCall}
-use Rattle.state.specs.declared.answer.Reply.TheVariants as Replies
 use Rattle.schedule.specs.Replay.{after}
 use Rattle.schedule.specs.declared.cursor.Moved.{Moved}
-use Rattle.schedule.specs.declared.cursor.Seen.TheVariants as Seens
 use Rattle.print.specs.Line.{blank_of, put_all, line_of}
 use Rattle.print.specs.Page.{copy_of}
 use Rattle.print.specs.Text.{ascii, decimal_by}
@@ -29,8 +25,7 @@ use Rattle.print.proofs.replayed.end_line.Reads as end_line
 use Rattle.print.proofs.replayed.event_line.Reads as event_line
 use Rattle.print.proofs.replayed.refused_line.Reads as refused_line
 use Rattle.print.proofs.replayed.step_line.Reads as step_line
-use Rattle.contracts.specs.Allowed.{Determined, ◌&◌, Allows, AllowsLent, apart_by, clash, determined}
-use Rattle.contracts.specs.Allowed.{lent, slice}
+use Rattle.contracts.specs.Allowed.{Determined, ◌&◌, Allows, AllowsLent, apart_by, clash, determined, lent, slice}
 use Rattle.contracts.specs.Examples.{machine_of}
 use Rattle.contracts.specs.Looks.{byte_at}
 
@@ -107,24 +102,24 @@ lay_stays_where_it_was κs a = clash (cc a.0)
 
 -- ── document 01's lines ──
 
-pub event_line_determined : (at : ℕ) (t : ThreadNumber) (answer : Answer) (woken : Owner) (w : Word)
+pub event_line_determined : (at : ℕ) (t : ThreadNumber) (answer : Answer) (woken : Option ThreadNumber) (w : Word)
     → Determined (Allows event_line.Post (at & t & answer & woken & w & tt))
 event_line_determined at t answer woken w = determined
 
 pub event_line_leaves_the_woken_out :
-    Allows event_line.Post (0 & thread 0 & Went & Owners.Thread (thread 1) & word 18 & tt)
+    Allows event_line.Post (0 & thread 0 & Went & Some (thread 1) & word 18 & tt)
     (line_of (ascii "0 0 went - 18")) → ⊥
 unfolding put_all decimal_by
 event_line_leaves_the_woken_out = apart_by (byte_at 9) refl
 
 pub event_line_says_the_woken_node :
-    Allows event_line.Post (0 & thread 0 & Went & Owners.Thread (thread 1) & word 18 & tt)
+    Allows event_line.Post (0 & thread 0 & Went & Some (thread 1) & word 18 & tt)
     (line_of (ascii "0 0 went 2 18")) → ⊥
 unfolding put_all decimal_by
 event_line_says_the_woken_node = apart_by (byte_at 9) refl
 
 pub event_line_counts_from_one :
-    Allows event_line.Post (0 & thread 0 & Begun & Owners.Nobody & word 0 & tt) (line_of (ascii "1 0 begun - 0")) → ⊥
+    Allows event_line.Post (0 & thread 0 & Begun & None & word 0 & tt) (line_of (ascii "1 0 begun - 0")) → ⊥
 unfolding put_all decimal_by
 event_line_counts_from_one = apart_by (byte_at 0) refl
 
@@ -158,7 +153,7 @@ abbrev refused : Moved
 refused =
     record {
       cursor = record { machine = machine_of 1 0 [] []; at = 1 };
-      seen = Seens.Event 1 (thread 0) (Replies.Refused InsideCall);
+      seen = Some (record { code = 1; thread = thread 0; reply = Err InsideCall });
     }
 
 pub step_line_prints_a_refusal_as_the_end : Allows step_line.Post (1 & refused & tt) (line_of (ascii "end 1")) → ⊥

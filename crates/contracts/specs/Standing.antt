@@ -1,5 +1,6 @@
 -- The contracts of crate standing: each public function's result is determined, and wrong answers that its contract
--- rules out. The part that a place has in the queue, where a waiter stands, whom it waits for. Assumes nothing.
+-- rules out. A thread's record, the part that a place has in the queue, where a waiter stands, whom it waits for.
+-- Assumes nothing.
 use Rattle.std.specs.Prelude.{ℕ, true, false, [], ◌∷◌}
 use Rattle.std.proofs.lemmas.Bool.{false≢true}
 use Rattle.std.proofs.Common.{sym}
@@ -8,6 +9,7 @@ use Rattle.word.specs.Number.{node, none, thread}
 use Rattle.word.specs.declared.number.ThreadNumber.{ThreadNumber}
 use Rattle.state.specs.declared.holding.Holding.TheVariants as Holds
 use Rattle.state.specs.declared.machine.Machine.{Machine}
+use Rattle.state.specs.declared.machine.Thread.{Thread}
 use Rattle.state.specs.declared.place.Place.{Place}
 use Rattle.state.specs.declared.place.Place.TheVariants as At
 use Rattle.state.specs.declared.place.Walk.TheVariants as For
@@ -17,12 +19,22 @@ use Rattle.standing.specs.Stands.{held_below}
 use Rattle.standing.specs.declared.part.Part.{Part}
 use Rattle.standing.specs.declared.part.Part.TheVariants as Parts
 use Rattle.standing.specs.declared.stands.Standing.TheVariants as Standings
+use Rattle.standing.proofs.look.record_of.Reads as record_of
 use Rattle.standing.proofs.part.part_at.Reads as part_at
 use Rattle.standing.proofs.part.registered.Reads as registered_part
 use Rattle.standing.proofs.rouses.rouses.Reads as rouses
 use Rattle.standing.proofs.stands.stands.Reads as stands
-use Rattle.contracts.specs.Allowed.{Determined, ◌&◌, Allows, clash, determined}
+use Rattle.contracts.specs.Allowed.{Determined, ◌&◌, Allows, apart_in, clash, determined}
 use Rattle.contracts.specs.Examples.{machine_of, thread_of}
+
+-- ── a thread's record ──
+
+pub record_of_determined : (m : Machine) (t : ThreadNumber) → Determined (Allows record_of.Post (m & t & tt))
+record_of_determined m t = determined
+
+pub record_of_no_thread_writes :
+    Allows record_of.Post (machine_of 1 0 [] [] & thread 9 & tt) (thread_of At.Idle Holds.Write) → ⊥
+record_of_no_thread_writes = apart_in (λ (t : Thread). t.holding) (λ e. clash (cc))
 
 -- ── the part that a place has in the queue ──
 

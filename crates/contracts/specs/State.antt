@@ -1,17 +1,17 @@
 -- The contracts of crate state: each public function's result is determined, and two or three wrong answers that its
 -- contract rules out. In the order of its files: access, answer, holding, machine, node, view. Assumes nothing.
-use Rattle.std.specs.Prelude.{ℕ, Bool, true, false, refl, []}
+use Rattle.std.specs.Prelude.{ℕ, Bool, true, false, ◌≡◌, refl, List, [], Err, Ok, Option, Some, None, length}
+use Rattle.std.specs.Borrow.{Bor}
+use contract.Lifetimes.{Lfts}
 use Rattle.std.proofs.lemmas.Bool.{false≢true}
-use Rattle.std.proofs.Common.{sym}
+use Rattle.std.proofs.Common.{sym, ap}
 use Rattle.word.specs.Flags.{word}
 use Rattle.word.specs.Number.{node, thread}
 use Rattle.word.specs.declared.flags.Word.{Word}
 use Rattle.word.specs.declared.number.NodeNumber.{NodeNumber}
-use Rattle.word.specs.declared.number.Owner.{Owner}
-use Rattle.word.specs.declared.number.Owner.TheVariants as Owners
 use Rattle.word.specs.declared.number.ThreadNumber.{ThreadNumber}
 use Rattle.state.specs.Access.{access_of, at_word_of, load_of, store_of, touched_of}
-use Rattle.state.specs.Answer.{answer_text}
+use Rattle.state.specs.Answer.{answer_word, five_bytes, answer_text}
 use Rattle.state.specs.Machine.{made_of, refused_of}
 use Rattle.state.specs.Node.{blank_node, filled_of, with_completed, with_next, with_prev, with_tail}
 use Rattle.state.specs.View.{at, end, stays, writes, links, subtracts, completes, parks}
@@ -22,7 +22,6 @@ use Rattle.state.specs.declared.answer.Answer.{Answer}
 use Rattle.state.specs.declared.answer.Answer.TheVariants.{Done, No, Went, Yes}
 use Rattle.state.specs.declared.answer.Refusal.{Refusal}
 use Rattle.state.specs.declared.answer.Refusal.TheVariants.{CannotFail, Damaged, NoThread, NoToken, UnknownCode}
-use Rattle.state.specs.declared.answer.Verdict.TheVariants as Verdicts
 use Rattle.state.specs.declared.holding.Holding.{Holding}
 use Rattle.state.specs.declared.holding.Holding.TheVariants as Holds
 use Rattle.state.specs.declared.machine.Machine.{Machine}
@@ -68,7 +67,8 @@ use Rattle.state.proofs.view.View.parks.Reads as parks_thread
 use Rattle.state.proofs.view.View.stays.Reads as stays_put
 use Rattle.state.proofs.view.View.subtracts.Reads as subtracts_count
 use Rattle.state.proofs.view.View.writes.Reads as writes_word
-use Rattle.contracts.specs.Allowed.{Determined, ◌&◌, Allows, apart_by, apart_in, clash, determined}
+use Rattle.contracts.specs.Allowed.{Determined, DeterminedBytes, ◌&◌, Allows, AllowsLent, slice}
+use Rattle.contracts.specs.Allowed.{apart_by, apart_in, clash, determined, determined_bytes}
 use Rattle.contracts.specs.Examples.{failing, holds, machine_of, seeing, thread_of, tokened}
 use Rattle.contracts.specs.Looks.{answer_after, holding_after, next_after, node_number, owner_number, place_after}
 use Rattle.contracts.specs.Looks.{tail_after, token_after, woken_by, word_after}
@@ -123,14 +123,20 @@ number_of_cannot_fail_is_six e = clash (cc)
 pub number_from_zero : Allows number.Post (UnknownCode & tt) 0 → ⊥
 number_from_zero e = clash (cc)
 
-pub text_determined : (a : Answer) → Determined (Allows text.Post (a & tt))
-text_determined a = determined
+pub text_determined : (κs : Lfts 1) (a : Answer) → DeterminedBytes (AllowsLent text.Post κs (a & tt))
+text_determined κs a = determined_bytes
 
-pub text_of_no_is_yes : Allows text.Post (No & tt) (answer_text Yes) → ⊥
-text_of_no_is_yes = apart_by (λ t. t.length) refl
+pub text_of_no_is_yes : (κs : Lfts 1) → AllowsLent text.Post κs (No & tt) (slice (answer_word Yes)) → ⊥
+text_of_no_is_yes κs = apart_by length refl
 
-pub text_with_its_zeros : Allows text.Post (Done & tt) (record { bytes = (answer_text Done).bytes; length = 5 }) → ⊥
-text_with_its_zeros = apart_by (λ t. t.length) refl
+pub text_with_its_zeros : (κs : Lfts 1) → AllowsLent text.Post κs (Done & tt) (slice ((answer_text Done).bytes)) → ⊥
+text_with_its_zeros κs = apart_by length refl
+
+-- so it tells of the same word in five bytes too
+pub text_in_five_bytes :
+    (κs : Lfts 1) (a : Answer) (s : Bor (List ℕ)) → AllowsLent text.Post κs (a & tt) s
+    → five_bytes s.now ≡ answer_text a
+text_in_five_bytes κs a s e = ap five_bytes e
 
 -- ── holding ──
 
@@ -224,15 +230,15 @@ good_count_past_the_limit e = false≢true (sym e)
 pub fresh_determined : (count : ℕ) → Determined (Allows fresh.Post (count & tt))
 fresh_determined count = determined
 
-pub fresh_of_nine_is_fine : Allows fresh.Post (9 & tt) (record { machine = made_of 1; verdict = Verdicts.Fine }) → ⊥
+pub fresh_of_nine_is_fine : Allows fresh.Post (9 & tt) (record { machine = made_of 1; verdict = Ok tt }) → ⊥
 fresh_of_nine_is_fine = apart_in (λ f. f.verdict) (λ e. clash (cc))
 
 pub fresh_of_nine_has_nine :
-    Allows fresh.Post (9 & tt) (record { machine = made_of 9; verdict = Verdicts.Refused Damaged }) → ⊥
+    Allows fresh.Post (9 & tt) (record { machine = made_of 9; verdict = Err Damaged }) → ⊥
 fresh_of_nine_has_nine = apart_by (λ f. f.machine.count) refl
 
 pub fresh_of_eight_is_refused :
-    Allows fresh.Post (8 & tt) (record { machine = made_of 1; verdict = Verdicts.Refused Damaged }) → ⊥
+    Allows fresh.Post (8 & tt) (record { machine = made_of 1; verdict = Err Damaged }) → ⊥
 fresh_of_eight_is_refused = apart_by (λ f. f.machine.count) refl
 
 pub refused_determined : (m : Machine) (refusal : Refusal) → Determined (Allows refused.Post (m & refusal & tt))
@@ -430,18 +436,18 @@ pub subtracts_nothing :
     (subtracts (seeing 19) (with_next blank_node (word 32)) Holds.Nothing (end Done)) → ⊥
 subtracts_nothing = apart_by next_after refl
 
-pub completes_determined : (v : View) (n : Node) (woken : Owner) (next : Next)
+pub completes_determined : (v : View) (n : Node) (woken : Option ThreadNumber) (next : Next)
     → Determined (Allows completes_node.Post (v & n & woken & next & tt))
 completes_determined v n woken next = determined
 
 pub completes_wakes_nobody :
-    Allows completes_node.Post (seeing 0 & with_completed blank_node & Owners.Thread (thread 1) & end Done & tt)
-    (completes (seeing 0) (with_completed blank_node) Owners.Nobody (end Done)) → ⊥
+    Allows completes_node.Post (seeing 0 & with_completed blank_node & Some (thread 1) & end Done & tt)
+    (completes (seeing 0) (with_completed blank_node) None (end Done)) → ⊥
 completes_wakes_nobody = apart_in woken_by (λ e. clash (cc))
 
 pub completes_wakes_itself :
-    Allows completes_node.Post (seeing 0 & with_completed blank_node & Owners.Thread (thread 1) & end Done & tt)
-    (completes (seeing 0) (with_completed blank_node) (Owners.Thread (thread 0)) (end Done)) → ⊥
+    Allows completes_node.Post (seeing 0 & with_completed blank_node & Some (thread 1) & end Done & tt)
+    (completes (seeing 0) (with_completed blank_node) (Some (thread 0)) (end Done)) → ⊥
 completes_wakes_itself = apart_by (λ s. owner_number (woken_by s)) refl
 
 pub parks_determined : (v : View) (token : Bool) (next : Next)

@@ -1,19 +1,17 @@
 -- The contracts of crate traced: both public functions' results are determined, and wrong lines that their contracts
 -- rule out. The trace's line of an event, then of a thread. Assumes nothing.
-use Rattle.std.specs.Prelude.{ℕ, true, refl, [], ◌∷◌}
+use Rattle.std.specs.Prelude.{ℕ, true, refl, [], ◌∷◌, None, Some}
 use Rattle.word.specs.Flags.{word}
 use Rattle.word.specs.Number.{node, thread}
-use Rattle.word.specs.declared.number.Owner.TheVariants as Owners
 use Rattle.word.specs.declared.number.ThreadNumber.{ThreadNumber}
+use Rattle.state.specs.Answer.{accepted_with}
 use Rattle.state.specs.declared.answer.Answer.TheVariants.{Done}
-use Rattle.state.specs.declared.answer.Reply.TheVariants as Replies
 use Rattle.state.specs.declared.holding.Holding.TheVariants as Holds
 use Rattle.state.specs.declared.machine.Machine.{Machine}
 use Rattle.state.specs.declared.place.Place.TheVariants as At
 use Rattle.state.specs.declared.place.Who.TheVariants.{Leaver}
 use Rattle.listing.specs.ReaderCount.{reads_below}
 use Rattle.schedule.specs.declared.cursor.Moved.{Moved}
-use Rattle.schedule.specs.declared.cursor.Seen.TheVariants as Seens
 use Rattle.standing.specs.Look.{among_below, met_from}
 use Rattle.standing.specs.Stands.{held_below}
 use Rattle.print.specs.Line.{put_all, line_of}
@@ -35,7 +33,7 @@ abbrev granted : Moved
 granted =
     record {
       cursor = record { machine = machine_of 1 17 [] (thread_of At.Idle Holds.Read ∷ []); at = 3 };
-      seen = Seens.Event 16 (thread 0) (Replies.Accepted Done Owners.Nobody);
+      seen = Some (record { code = 16; thread = thread 0; reply = accepted_with Done None });
     }
 
 pub traced_line_says_the_word's_count_in_a_node :

@@ -7,7 +7,7 @@ use Rattle.word.specs.declared.flags.Word.{Word}
 use Rattle.word.specs.declared.number.NodeNumber.{NodeNumber}
 use Rattle.state.specs.Access.{access_of}
 use Rattle.state.specs.Node.{blank_node, with_prev, with_tail}
-use Rattle.state.specs.View.{at, end, walk_from, stays, writes, links}
+use Rattle.state.specs.View.{at, end, walk_from, stays, writes, links, Stepped}
 use Rattle.state.specs.declared.answer.Answer.TheVariants.{Done}
 use Rattle.state.specs.declared.holding.Holding.TheVariants as Holds
 use Rattle.state.specs.declared.place.Place.{Place}
@@ -17,7 +17,6 @@ use Rattle.state.specs.declared.place.Walk.TheVariants as For
 use Rattle.state.specs.declared.place.Who.{Who}
 use Rattle.state.specs.declared.place.Who.TheVariants.{Leaver, Waiter}
 use Rattle.state.specs.declared.view.Mark.TheVariants as Marks
-use Rattle.state.specs.declared.view.Stepped.{Stepped}
 use Rattle.state.specs.declared.view.View.{View}
 use Rattle.unlock.proofs.after_walk.walk_head.Reads as walk_head
 use Rattle.unlock.proofs.unlock_queue.queue_cas.Reads as queue_cas

@@ -1,15 +1,14 @@
 -- The contracts of crate walk: each public function's result is determined, and wrong answers that its contract rules
 -- out. Find tail, then complete all. Assumes nothing.
-use Rattle.std.specs.Prelude.{refl}
+use Rattle.std.specs.Prelude.{refl, Option, Some, None}
 use Rattle.word.specs.Flags.{word}
 use Rattle.word.specs.Number.{node, none, thread}
 use Rattle.word.specs.declared.flags.Word.{Word}
 use Rattle.word.specs.declared.number.NodeNumber.{NodeNumber}
-use Rattle.word.specs.declared.number.Owner.{Owner}
-use Rattle.word.specs.declared.number.Owner.TheVariants as Owners
+use Rattle.word.specs.declared.number.ThreadNumber.{ThreadNumber}
 use Rattle.state.specs.Access.{access_of}
 use Rattle.state.specs.Node.{blank_node, with_completed, with_next, with_prev, with_tail}
-use Rattle.state.specs.View.{at, end, stays, links, completes}
+use Rattle.state.specs.View.{at, end, stays, links, completes, Stepped}
 use Rattle.state.specs.declared.answer.Answer.TheVariants.{Done}
 use Rattle.state.specs.declared.place.Place.TheVariants as At
 use Rattle.state.specs.declared.place.Walk.{Walk}
@@ -17,7 +16,6 @@ use Rattle.state.specs.declared.place.Walk.TheVariants as For
 use Rattle.state.specs.declared.place.Who.{Who}
 use Rattle.state.specs.declared.place.Who.TheVariants.{Leaver}
 use Rattle.state.specs.declared.view.Next.{Next}
-use Rattle.state.specs.declared.view.Stepped.{Stepped}
 use Rattle.state.specs.declared.view.View.{View}
 use Rattle.walk.proofs.complete_all.wake_prev.Reads as wake_prev
 use Rattle.walk.proofs.complete_all.wake_store.Reads as wake_store
@@ -107,26 +105,26 @@ pub wake_store_determined : (v : View) (who : Who) (current prev : NodeNumber)
 wake_store_determined v who current prev = determined
 
 -- node 1 is completed while node 2 was before it
-abbrev completing : Owner → Next → Stepped
+abbrev completing : Option ThreadNumber → Next → Stepped
 completing woken next = completes (seeing 0) (with_completed blank_node) woken next
 
 pub wake_store_wakes_the_owner_of_prev :
     Allows wake_store.Post (seeing 0 & Leaver & node 1 & node 2 & tt)
-    (completing (Owners.Thread (thread 1)) (at (At.WakePrev Leaver (node 2)))) → ⊥
+    (completing (Some (thread 1)) (at (At.WakePrev Leaver (node 2)))) → ⊥
 wake_store_wakes_the_owner_of_prev = apart_by (λ s. owner_number (woken_by s)) refl
 
 pub wake_store_wakes_nobody :
     Allows wake_store.Post (seeing 0 & Leaver & node 1 & node 2 & tt)
-    (completing Owners.Nobody (at (At.WakePrev Leaver (node 2)))) → ⊥
+    (completing None (at (At.WakePrev Leaver (node 2)))) → ⊥
 wake_store_wakes_nobody = apart_in woken_by (λ e. clash (cc))
 
 -- its prev is none by now
 pub wake_store_reads_prev_after_completing :
     Allows wake_store.Post (seeing 0 & Leaver & node 1 & node 2 & tt)
-    (completing (Owners.Thread (thread 0)) (end Done)) → ⊥
+    (completing (Some (thread 0)) (end Done)) → ⊥
 wake_store_reads_prev_after_completing = apart_in place_after (λ e. clash (cc))
 
 pub wake_store_goes_on_past_the_last :
     Allows wake_store.Post (seeing 0 & Leaver & node 1 & none & tt)
-    (completing (Owners.Thread (thread 0)) (at (At.WakePrev Leaver none))) → ⊥
+    (completing (Some (thread 0)) (at (At.WakePrev Leaver none))) → ⊥
 wake_store_goes_on_past_the_last = apart_in place_after (λ e. clash (cc))

@@ -1,19 +1,15 @@
 -- The contracts of crate word: each public function's result is determined, and two or three wrong answers that its
 -- contract rules out. In the order of its files: numbers, flags, rules. Crate state's functions are in State.antt.
 -- Assumes nothing.
-use Rattle.std.specs.Prelude.{ℕ, ◌-◌, ◌^◌, true, false, refl}
+use Rattle.std.specs.Prelude.{ℕ, ◌-◌, ◌^◌, true, false, refl, Some, None}
 use Rattle.std.proofs.lemmas.Bool.{false≢true}
 use Rattle.std.proofs.Common.{sym}
 use Rattle.word.specs.Flags.{word}
 use Rattle.word.specs.Number.{node, thread}
 use Rattle.word.specs.declared.flags.Word.{Word}
 use Rattle.word.specs.declared.number.NodeNumber.{NodeNumber}
-use Rattle.word.specs.declared.number.Owner.TheVariants as Owners
-use Rattle.word.specs.declared.number.Slot.TheVariants as Slots
 use Rattle.word.specs.declared.number.ThreadNumber.{ThreadNumber}
-use Rattle.word.specs.declared.rules.ReadLocked.TheVariants as ReadLocks
 use Rattle.word.specs.declared.rules.ReadUnlocked.TheVariants as ReadUnlocks
-use Rattle.word.specs.declared.rules.WriteLocked.TheVariants as WriteLocks
 use Rattle.word.proofs.flags.Word.clear_downgraded.Reads as clear_downgraded
 use Rattle.word.proofs.flags.Word.clear_locked.Reads as clear_locked
 use Rattle.word.proofs.flags.Word.clear_queue_locked.Reads as clear_queue_locked
@@ -61,22 +57,22 @@ is_none_said_of_the_first e = false≢true (sym e)
 pub owner_determined : (n : NodeNumber) → Determined (Allows owner.Post (n & tt))
 owner_determined n = determined
 
-pub owner_keeps_one : Allows owner.Post (node 1 & tt) (Owners.Thread (thread 1)) → ⊥
+pub owner_keeps_one : Allows owner.Post (node 1 & tt) (Some (thread 1)) → ⊥
 owner_keeps_one = apart_by owner_number refl
 
-pub owner_of_none_is_a_thread : Allows owner.Post (node 0 & tt) (Owners.Thread (thread 0)) → ⊥
+pub owner_of_none_is_a_thread : Allows owner.Post (node 0 & tt) (Some (thread 0)) → ⊥
 owner_of_none_is_a_thread e = clash (cc)
 
-pub owner_wraps_past_the_last_thread : Allows owner.Post (node 257 & tt) (Owners.Thread (thread 0)) → ⊥
+pub owner_wraps_past_the_last_thread : Allows owner.Post (node 257 & tt) (Some (thread 0)) → ⊥
 owner_wraps_past_the_last_thread e = clash (cc)
 
 pub slot_determined : (n : NodeNumber) (count : ℕ) → Determined (Allows slot.Post (n & count & tt))
 slot_determined n count = determined
 
-pub slot_keeps_the_number : Allows slot.Post (node 8 & 8 & tt) (Slots.At 8) → ⊥
+pub slot_keeps_the_number : Allows slot.Post (node 8 & 8 & tt) (Some 8) → ⊥
 slot_keeps_the_number e = clash (cc)
 
-pub slot_past_the_count : Allows slot.Post (node 2 & 1 & tt) (Slots.At 1) → ⊥
+pub slot_past_the_count : Allows slot.Post (node 2 & 1 & tt) (Some 1) → ⊥
 slot_past_the_count e = clash (cc)
 
 -- ── flags ──
@@ -194,28 +190,28 @@ to_node_one_less = apart_by node_number refl
 pub write_lock_determined : (w : Word) → Determined (Allows write_lock.Post (w & tt))
 write_lock_determined w = determined
 
-pub write_lock_over_a_lock : Allows write_lock.Post (word 17 & tt) (WriteLocks.To (word 17)) → ⊥
+pub write_lock_over_a_lock : Allows write_lock.Post (word 17 & tt) (Some (word 17)) → ⊥
 write_lock_over_a_lock e = clash (cc)
 
-pub write_lock_refused_by_a_queue : Allows write_lock.Post (word 18 & tt) WriteLocks.Refused → ⊥
+pub write_lock_refused_by_a_queue : Allows write_lock.Post (word 18 & tt) None → ⊥
 write_lock_refused_by_a_queue e = clash (cc)
 
 pub read_lock_determined : (w : Word) → Determined (Allows read_lock.Post (w & tt))
 read_lock_determined w = determined
 
-pub read_lock_beside_a_writer : Allows read_lock.Post (word 1 & tt) (ReadLocks.To (word 17)) → ⊥
+pub read_lock_beside_a_writer : Allows read_lock.Post (word 1 & tt) (Some (word 17)) → ⊥
 read_lock_beside_a_writer e = clash (cc)
 
-pub read_lock_of_a_queued_word : Allows read_lock.Post (word 18 & tt) (ReadLocks.To (word 35)) → ⊥
+pub read_lock_of_a_queued_word : Allows read_lock.Post (word 18 & tt) (Some (word 35)) → ⊥
 read_lock_of_a_queued_word e = clash (cc)
 
-pub read_lock_wraps_at_the_top : Allows read_lock.Post (word (2 ^ 64 - 16) & tt) (ReadLocks.To (word 1)) → ⊥
+pub read_lock_wraps_at_the_top : Allows read_lock.Post (word (2 ^ 64 - 16) & tt) (Some (word 1)) → ⊥
 read_lock_wraps_at_the_top e = clash (cc)
 
-pub read_lock_refused_one_too_soon : Allows read_lock.Post (word (2 ^ 64 - 19) & tt) ReadLocks.Refused → ⊥
+pub read_lock_refused_one_too_soon : Allows read_lock.Post (word (2 ^ 64 - 19) & tt) None → ⊥
 read_lock_refused_one_too_soon e = clash (cc)
 
-pub read_lock_leaves_locked_clear : Allows read_lock.Post (word 16 & tt) (ReadLocks.To (word 32)) → ⊥
+pub read_lock_leaves_locked_clear : Allows read_lock.Post (word 16 & tt) (Some (word 32)) → ⊥
 read_lock_leaves_locked_clear = apart_by read_locked_word refl
 
 pub read_unlock_determined : (w : Word) → Determined (Allows read_unlock.Post (w & tt))

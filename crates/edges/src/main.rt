@@ -6,9 +6,11 @@ mod moves;
 mod replays;
 mod sheet;
 
-use sheet::Tally;
+use sheet::Sheet;
 
 fn main(rt: HostRuntime) {
-    let replayed = replays::all(&rt, Tally { right: 0, wrong: 0 });
-    sheet::total(&rt, files::all(&rt, replayed));
+    let mut sheet = Sheet::new(&rt);
+    sheet.replays();
+    sheet.files();
+    sheet.total();
 }

@@ -2,41 +2,35 @@
 use console::output::write_line;
 use print::Line;
 
-#[derive(Clone, Copy)]
-pub(crate) struct Tally {
-    pub(crate) right: u64,
-    pub(crate) wrong: u64,
+#[derive(Drop)]
+pub(crate) struct Sheet<'a, R> {
+    rt: &'a R,
+    right: u64,
+    wrong: u64,
 }
 
-pub(crate) fn more(n: u64) -> u64 {
-    if n < u64::MAX {
-        return n + 1;
+impl<'a, R: Print + Eprint + AllocGlobal> Sheet<'a, R> {
+    pub(crate) fn new(rt: &'a R) -> Self {
+        Sheet {
+            rt,
+            right: 0,
+            wrong: 0,
+        }
     }
-    n
-}
 
-pub(crate) fn tell(
-    rt: &(impl Print + Eprint + AllocGlobal),
-    so_far: Tally,
-    what: &[u8],
-    expected: u64,
-    found: u64,
-) -> Tally {
-    let named = Line::blank().text(what).text(b": expected ");
-    write_line(rt, named.decimal(expected).text(b", found ").decimal(found));
-    if expected == found {
-        return Tally {
-            right: more(so_far.right),
-            wrong: so_far.wrong,
-        };
+    pub(crate) fn tell(&mut self, what: &str, expected: u64, found: u64) {
+        let named = Line::blank().text(what.as_bytes()).text(b": expected ");
+        let line = named.decimal(expected).text(b", found ").decimal(found);
+        write_line(self.rt, line);
+        if expected == found {
+            self.right = self.right.saturating_add(1);
+        } else {
+            self.wrong = self.wrong.saturating_add(1);
+        }
     }
-    Tally {
-        right: so_far.right,
-        wrong: more(so_far.wrong),
-    }
-}
 
-pub(crate) fn total(rt: &(impl Print + Eprint + AllocGlobal), so_far: Tally) {
-    let right = Line::blank().decimal(so_far.right).text(b" right, ");
-    write_line(rt, right.decimal(so_far.wrong).text(b" wrong"));
+    pub(crate) fn total(&self) {
+        let right = Line::blank().decimal(self.right).text(b" right, ");
+        write_line(self.rt, right.decimal(self.wrong).text(b" wrong"));
+    }
 }

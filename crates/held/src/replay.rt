@@ -2,28 +2,26 @@
 ghost use Rattle.std.specs.Prelude.{◌≡◌};
 ghost use Rattle.held.specs.Held.{shown_of, held_of};
 
-use schedule::replay::{Stop, replay, rest};
-use state::Machine;
+use schedule::replay::{replay, rest};
+use state::{Machine, Refusal};
 
-// The machine after the events that ran, how many they are, why it stopped, and the rest from the refused event on.
+// The machine after the events that ran, how many they are, what stopped them, and the rest from the refused event on.
 #[derive(Clone, Copy)]
-pub struct Held<'a> {
+pub struct Held<'a, E> {
     pub machine: Machine,
     pub run: usize,
-    pub stop: Stop,
+    pub stop: Result<(), E>,
     pub rest: &'a [u8],
 }
 
-pub fn replay_held<'a>(first: Machine, s: &'a [u8]) -> Held<'a>
+pub fn replay_held(first: Machine, s: &[u8]) -> Held<'_, Refusal>
     ensures { shown_of result ≡ held_of first s.now }
 {
     let done = replay(first, s);
-    let run = done.run;
-    let unread = rest(s, run);
     Held {
         machine: done.machine,
-        run: run,
+        run: done.run,
         stop: done.stop,
-        rest: unread,
+        rest: rest(s, done.run),
     }
 }

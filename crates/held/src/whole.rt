@@ -2,29 +2,21 @@
 ghost use Rattle.std.specs.Prelude.{◌≡◌};
 ghost use Rattle.held.specs.Held.{file_shown_of, file_held_of};
 
-use schedule::whole::{FileStop, replay_file, rest_of_file};
-use state::Machine;
+use crate::replay::Held;
+use schedule::FileStop;
+use schedule::whole::{replay_file, rest_of_file};
 
-// As a Held; the stop may be the file's refusal, with nothing run and a fresh machine of one thread.
-#[derive(Clone, Copy)]
-pub struct FileHeld<'a> {
-    pub machine: Machine,
-    pub run: usize,
-    pub stop: FileStop,
-    pub rest: &'a [u8],
-}
+// The stop may be the file's refusal, with nothing run and a fresh machine of one thread.
+pub type FileHeld<'a> = Held<'a, FileStop>;
 
-pub fn replay_file_held<'a>(s: &'a [u8]) -> FileHeld<'a>
+pub fn replay_file_held(s: &[u8]) -> FileHeld<'_>
     ensures { file_shown_of result ≡ file_held_of s.now }
 {
     let done = replay_file(s);
-    let run = done.run;
-    let stop = done.stop;
-    let unread = rest_of_file(s, stop, run);
-    FileHeld {
+    Held {
         machine: done.machine,
-        run: run,
-        stop: stop,
-        rest: unread,
+        run: done.run,
+        stop: done.stop,
+        rest: rest_of_file(s, done.stop, done.run),
     }
 }

@@ -1,14 +1,13 @@
 -- The ways in which a call ends by a change of the word: with no queue; by a grant to a writer; with a queue that
 -- somebody owns.
 -- Assumes nothing.
-use Rattle.std.specs.Prelude.{◌+◌, ◌*◌, Bool, true, false, ◌≡◌, refl}
+use Rattle.std.specs.Prelude.{◌+◌, ◌*◌, Bool, true, false, ◌≡◌, refl, Some}
 use Rattle.std.proofs.Common.{sym, ap, ◌∙◌, arith}
 use Rattle.word.specs.Flags.{word, LOCKED, QUEUED, QUEUE_LOCKED, DOWNGRADED, SINGLE, locked, queued, downgraded}
 use Rattle.word.specs.Flags.{set_locked}
 use Rattle.word.specs.Laws.{ReadGranted, read_lock_granted, set_has, set_keeps, set_node}
 use Rattle.word.specs.Rules.{read_lock_of}
 use Rattle.word.specs.declared.flags.Word.{Word}
-use Rattle.word.specs.declared.rules.ReadLocked.TheVariants.{To}
 use Rattle.state.specs.Holding.{granted_read, granted_write}
 use Rattle.state.specs.declared.holding.Holding.{Holding}
 use Rattle.state.specs.declared.place.Place.TheVariants.{Idle}
@@ -40,7 +39,7 @@ module _ (st : Setting) (o : RoleDown st.s st.g st.me.0) where
   }
 
   -- read_lock grants: one reader more
-  pub ended_read : Free (mine st).holding → leaver (mine st) ≡ 0 → (to : Word) → read_lock_of s.word ≡ To to
+  pub ended_read : Free (mine st).holding → leaver (mine st) ≡ 0 → (to : Word) → read_lock_of s.word ≡ Some to
       → Ended st o to (granted_read (mine st).holding)
   ended_read h leaves to e =
       ended_bare to (granted_read (mine st).holding) d.unqueued (readers_word to (readers n s + 1) x.0).is

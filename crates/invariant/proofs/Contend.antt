@@ -1,30 +1,23 @@
 -- lock_contended until the node is registered: load and compare by the lock rule, reload, fill the node. Each place's
 -- rule keeps the invariant. Not here: the compare that registers (Register).
 -- Assumes nothing.
-use Rattle.std.specs.Prelude.{ℕ, suc, ◌+◌, Bool, true, false, not, ◌≢◌, ◌≡◌, refl, ltb}
+use Rattle.std.specs.Prelude.{ℕ, suc, ◌+◌, Bool, true, false, not, ◌≢◌, ◌≡◌, refl, ltb, Option, Some, None}
 use Rattle.std.proofs.Common.{sym, ap, ◌∙◌, subst, arith}
 use Rattle.word.specs.Base.{pick}
 use Rattle.word.specs.Cases.{pick_both, pick_second}
 use Rattle.word.specs.Flags.{word, locked, queued, set_locked, without_flags}
 use Rattle.word.specs.Number.{none as no_node, node_of}
-use Rattle.word.specs.Rules.{read_lock_of, write_lock_of}
 use Rattle.word.specs.declared.flags.Word.{Word}
 use Rattle.word.specs.declared.number.ThreadNumber.{ThreadNumber}
-use Rattle.word.specs.declared.rules.ReadLocked.{ReadLocked}
-use Rattle.word.specs.declared.rules.ReadLocked.TheVariants.{To as ReadTo, Refused as ReadRefused}
-use Rattle.word.specs.declared.rules.WriteLocked.{WriteLocked}
-use Rattle.word.specs.declared.rules.WriteLocked.TheVariants.{To as WriteTo, Refused as WriteRefused}
-use Rattle.state.specs.Holding.{granted_read, granted_write}
+use Rattle.state.specs.Holding.{granted_write}
 use Rattle.state.specs.Node.{filled_of}
 use Rattle.state.specs.View.{at, stays}
 use Rattle.state.specs.declared.machine.Thread.{Thread}
 use Rattle.state.specs.declared.node.Node.{Node}
 use Rattle.state.specs.declared.place.Place.{Place}
 use Rattle.state.specs.declared.place.Place.TheVariants.{Idle, ContendLoad, ContendCas, RegisterCas}
-use Rattle.acquire.specs.LockContended.{spin_count, by_read, by_write, permitted_of, granted_of, fill_of, contend_by}
+use Rattle.acquire.specs.LockContended.{spin_count, permitted_of, granted_of, fill_of, contend_by}
 use Rattle.acquire.specs.LockContended.{contend_judged, contend_load_of, contend_cas_by, contend_cas_of}
-use Rattle.acquire.specs.declared.lock_contended.Permitted.{Permitted}
-use Rattle.acquire.specs.declared.lock_contended.Permitted.TheVariants.{To, Refused}
 use Rattle.lock.specs.Effect.{elsewhere, stand_of}
 use Rattle.queue.specs.Tests.{never, impossible}
 use Rattle.queue.specs.Updates.{upd, upd_same, upd_other, map_upd}
@@ -44,12 +37,12 @@ use Rattle.invariant.proofs.CallEnds.{ended_read, ended_written}
 use Rattle.invariant.specs.Words.{word_is, readers_word}
 
 -- the lock rule refuses an unqueued word of the lock only where LOCKED is set
-refused_locked : (writer : Bool) (w : Word) (r v l : ℕ) → Unqueued w r v l → permitted_of writer w ≡ Refused
+refused_locked : (writer : Bool) (w : Word) (r v l : ℕ) → Unqueued w r v l → permitted_of writer w ≡ None
     → locked w ≡ true
 refused_locked writer w r v l (empty z h) e =
-    absurd (go writer (subst (λ x. permitted_of writer x ≡ Refused) (word_is w 0 z) e))
+    absurd (go writer (subst (λ x. permitted_of writer x ≡ None) (word_is w 0 z) e))
   where
-    go : (writer : Bool) → permitted_of writer (word 0) ≡ Refused → ⊥
+    go : (writer : Bool) → permitted_of writer (word 0) ≡ None → ⊥
     go true e = impossible (cc)
     go false e = impossible (cc)
 refused_locked writer w r v l (written z h) e = (readers_word w 0 z).locked
@@ -148,34 +141,17 @@ module _ (st : Setting) (c : Contends st) where
           (i.queue.parts.queued g.lo (omega arith) (omega arith)) unregistered
 
   -- the lock rule grants
-  pub kept_grant : (writer : Bool) (to : Word) → permitted_of writer s.word ≡ To to
+  pub kept_grant : (writer : Bool) (to : Word) → permitted_of writer s.word ≡ Some to
       → Inv n (moved_to st to (became (mine st) Idle (granted_of writer (mine st).holding))) g
-  kept_grant true to e = by (write_lock_of s.word) refl e
-    where
-      unlocked : (x : Word) → write_lock_of s.word ≡ WriteTo x → (locked s.word ≡ false) × (set_locked s.word ≡ x)
-      unlocked x f =
-          let y = pick_second (locked s.word) WriteRefused (WriteTo (set_locked s.word)) (WriteTo x)
-          (λ z. impossible (cc)) f in (y.0, cc y.1)
-
-      by : (r : WriteLocked) → write_lock_of s.word ≡ r → by_write r ≡ To to
-          → Inv n (moved_to st to (became (mine st) Idle (granted_write (mine st).holding))) g
-      by (WriteTo x) f z =
-          let is : set_locked s.word ≡ to = (unlocked x f).1 ∙ cc z in
-          subst (λ w. Inv n
-          (moved_to st w (became (mine st) Idle (granted_write (mine st).holding))) g)
-          is
-          (ends_call st c.down (set_locked s.word) _
-          (ended_written st c.down c.free c.leaves (unlocked x f).0))
-      by WriteRefused f z = impossible (cc)
-  kept_grant false to e = by (read_lock_of s.word) refl e
-    where
-      by : (r : ReadLocked) → read_lock_of s.word ≡ r → by_read r ≡ To to
-          → Inv n (moved_to st to (became (mine st) Idle (granted_read (mine st).holding))) g
-      by (ReadTo x) f z =
-          let is : x ≡ to = cc z in
-          ends_call st c.down to _
-          (ended_read st c.down c.free c.leaves to (f ∙ ap ReadTo is))
-      by ReadRefused f z = impossible (cc)
+  kept_grant true to e =
+      let unlocked = pick_second (locked s.word) None (Some (set_locked s.word)) (Some to)
+      (λ z. impossible (cc)) e in
+      subst (λ w. Inv n
+      (moved_to st w (became (mine st) Idle (granted_write (mine st).holding))) g)
+      (cc unlocked.1)
+      (ends_call st c.down (set_locked s.word) _
+      (ended_written st c.down c.free c.leaves unlocked.0))
+  kept_grant false to e = ends_call st c.down to _ (ended_read st c.down c.free c.leaves to e)
 
   module _ (writer : Bool) (reloads : ℕ) where
     on_to : (q : Place) → about q ≡ off_queue free false false true → stand_of q ≡ elsewhere → is_aside q ≡ false
@@ -188,17 +164,17 @@ module _ (st : Setting) (c : Contends st) where
     pub kept_contend : Kept st (suc me.0) (contend_judged (look_at st (suc me.0)) writer reloads s.word)
     kept_contend = by (permitted_of writer s.word) refl
       where
-        fill_bare : permitted_of writer s.word ≡ Refused → queued s.word ≡ false
+        fill_bare : permitted_of writer s.word ≡ None → queued s.word ≡ false
             → Kept st (suc me.0) (fill_of (look_at st (suc me.0)) writer reloads s.word)
         fill_bare e q =
             kept_fill writer reloads
             (rw q (refused_locked writer s.word (readers n s) (writers n s) (leavers n s) (i.count.bare q) e))
 
-        by : (r : Permitted) → permitted_of writer s.word ≡ r
+        by : (r : Option Word) → permitted_of writer s.word ≡ r
             → Kept st (suc me.0) (contend_by (look_at st (suc me.0)) writer reloads s.word r)
-        by (To to) e =
+        by (Some to) e =
             on_to (ContendCas writer reloads s.word) refl (contend_elsewhere writer reloads s.word).1 refl
-        by Refused e = pick_both (Kept st (suc me.0)) (queued s.word) _ _
+        by None e = pick_both (Kept st (suc me.0)) (queued s.word) _ _
             (λ q. kept_fill writer reloads (rw q))
             (λ q. pick_both (Kept st (suc me.0)) (ltb reloads spin_count) _ _
             (λ _. on_to (ContendLoad writer (reloads + 1)) refl
@@ -234,7 +210,7 @@ module _ (st : Setting) where
       again : Kept st (suc me.0) (contend_judged (look_at st (suc me.0)) writer reloads s.word)
       again = kept_contend st c writer reloads
 
-      by : (r : Permitted) → permitted_of writer s.word ≡ r
+      by : (r : Option Word) → permitted_of writer s.word ≡ r
           → Kept st (suc me.0) (contend_cas_by (look_at st (suc me.0)) writer reloads r)
-      by (To to) e = kept_stood st (suc me.0) here refl _ _ refl (kept_grant st c writer to e)
-      by Refused e = again
+      by (Some to) e = kept_stood st (suc me.0) here refl _ _ refl (kept_grant st c writer to e)
+      by None e = again

@@ -1,6 +1,7 @@
 -- Every event keeps the invariant and is never refused 8: on the machine itself, over lock's `event_of`.
 -- Assumes nothing.
-use Rattle.std.specs.Prelude.{ℕ, suc, ◌+◌, ◌≤◌, ◌<◌, Bool, ◌⊎◌, ◌≡◌, leb, ltb, length}
+use Rattle.std.specs.Prelude.{ℕ, suc, ◌+◌, ◌≤◌, ◌<◌, Bool, ◌⊎◌, ◌≡◌, leb, ltb, length, Err, Ok}
+use Rattle.std.specs.Prelude.{Option, Some, None}
 use Rattle.std.proofs.Math.Bool.{true, false}
 use Rattle.std.proofs.Common.{inl, inr, sym, ap, ◌∙◌, add-one, arith, length-set, leb-false, le-ltb}
 use Rattle.std.proofs.Math.Path.{refl, subst}
@@ -9,11 +10,9 @@ use Rattle.word.specs.Cases.{pick_both, pick_no}
 use Rattle.word.specs.Number.{slot_of}
 use Rattle.word.specs.declared.flags.Word.{Word}
 use Rattle.word.specs.declared.number.NodeNumber.{NodeNumber}
-use Rattle.word.specs.declared.number.Owner.{Owner}
-use Rattle.word.specs.declared.number.Owner.TheVariants.{Nobody, Thread as Somebody}
-use Rattle.word.specs.declared.number.Slot.{Slot}
-use Rattle.word.specs.declared.number.Slot.TheVariants.{Outside, At}
 use Rattle.word.specs.declared.number.ThreadNumber.{ThreadNumber}
+use Rattle.state.specs.Answer.{Verdict}
+use Rattle.state.specs.View.{Stepped}
 use Rattle.state.specs.Access.{access_of, touched_of}
 use Rattle.state.specs.Machine.{thread_limit, good_count, thread_at, node_at, refused_of, Sized}
 use Rattle.state.specs.declared.access.Kind.{Kind}
@@ -21,9 +20,6 @@ use Rattle.state.specs.declared.access.Kind.TheVariants.{Nothing, Load, Store, W
 use Rattle.state.specs.declared.access.Kind.TheVariants.{Subtract, Complete, Park}
 use Rattle.state.specs.declared.answer.Refusal.{Refusal}
 use Rattle.state.specs.declared.answer.Refusal.TheVariants.{UnknownCode, NoThread, InsideCall, WrongHolding, Damaged}
-use Rattle.state.specs.declared.answer.Reply.TheVariants.{Refused as RefusedBy}
-use Rattle.state.specs.declared.answer.Verdict.{Verdict}
-use Rattle.state.specs.declared.answer.Verdict.TheVariants.{Fine, Refused}
 use Rattle.state.specs.declared.machine.Machine.{Machine}
 use Rattle.state.specs.declared.machine.Thread.{Thread}
 use Rattle.state.specs.declared.machine.Outcome.{Outcome}
@@ -32,8 +28,6 @@ use Rattle.state.specs.declared.place.Place.TheVariants.{Idle, WalkHead}
 use Rattle.state.specs.declared.place.Walk.{Walk}
 use Rattle.state.specs.declared.view.Change.{Change}
 use Rattle.state.specs.declared.view.Mark.TheVariants.{Missing, Reader, Writer}
-use Rattle.state.specs.declared.view.Stepped.{Stepped}
-use Rattle.state.specs.declared.view.Stepped.TheVariants.{To, Refused as Denied}
 use Rattle.state.specs.declared.view.Mark.{Mark}
 use Rattle.lock.specs.Advance.{advance_of}
 use Rattle.lock.specs.Begin.{is_idle, may_begin, first_place, placed_of, began_of, begin_of}
@@ -45,7 +39,7 @@ use Rattle.lock.specs.Step.{halted_of, failing_of, marked_of, mark_by, mark_of, 
 use Rattle.lock.specs.Step.{step_of}
 use Rattle.lock.specs.declared.code.Call.{Call}
 use Rattle.lock.specs.declared.code.Code.{Code}
-use Rattle.lock.specs.declared.code.Code.TheVariants.{Begin, Step, Fail, Unknown}
+use Rattle.lock.specs.declared.code.Code.TheVariants.{Begin, Step, Fail}
 use Rattle.lock.specs.Still.{idle_is, still_queue}
 use Rattle.lock.specs.Stored.{woken_count, woken_nodes, woken_long}
 use Rattle.queue.specs.Tests.{never, impossible}
@@ -59,7 +53,7 @@ use Rattle.invariant.proofs.Begins.{first_not_aside, kept_begin}
 use Rattle.invariant.specs.Bridge.{lock_of, thread_stored, change_stored}
 
 -- a machine that has the invariant
-pub record Ok (m : Machine) : Type 0 where
+pub record Sound (m : Machine) : Type 0 where
   pub good : good_count m.count ≡ true
   pub sized : Sized m
   pub ghost : Ghost
@@ -68,12 +62,12 @@ pub record Ok (m : Machine) : Type 0 where
 -- so has the machine after an event of thread me, the tickets g having moved by its effect alone; and the reply is
 -- not 8
 pub record Safe (m : Machine) (g : Ghost) (me : ThreadNumber) (o : Outcome) : Type 0 where
-  pub ok : Ok o.machine
+  pub ok : Sound o.machine
   pub moved : Went me (thread_at m me.0).place g (thread_at o.machine me.0).place ok.ghost
-  pub not_eight : o.reply ≡ RefusedBy Damaged → ⊥
+  pub not_eight : o.reply ≡ Err Damaged → ⊥
 
 -- a step or a begin of its thread me, with the mark that it finds and whether its compare is made to fail
-abbrev setting_of : (m : Machine) → Ok m → (me : ThreadNumber) → me.0 < m.count → Mark → Bool → Setting
+abbrev setting_of : (m : Machine) → Sound m → (me : ThreadNumber) → me.0 < m.count → Mark → Bool → Setting
 setting_of m ok me tin mark fails =
     record {
       n = m.count;
@@ -90,7 +84,7 @@ setting_of m ok me tin mark fails =
 abbrev Other : Refusal → Type 0
 Other r = r ≡ Damaged → ⊥
 
-refused_safe : (m : Machine) (ok : Ok m) (me : ThreadNumber) (r : Refusal) → Other r
+refused_safe : (m : Machine) (ok : Sound m) (me : ThreadNumber) (r : Refusal) → Other r
     → Safe m ok.ghost me (refused_of m r)
 refused_safe m ok me r other = record {
   ok = ok;
@@ -104,14 +98,14 @@ refused_safe m ok me r other = record {
 -- ── a step ──
 
 -- what halts a step is never 8
-halted_other : (k : Kind) (token fails : Bool) (r : Refusal) → halted_of k token fails ≡ Refused r → Other r
-halted_other k token fails r e z = by k token fails (subst (λ x. halted_of k token fails ≡ Refused x) z e)
+halted_other : (k : Kind) (token fails : Bool) (r : Refusal) → halted_of k token fails ≡ Err r → Other r
+halted_other k token fails r e z = by k token fails (subst (λ x. halted_of k token fails ≡ Err x) z e)
   where
-    failing : (fails : Bool) → failing_of fails ≡ Refused Damaged → ⊥
+    failing : (fails : Bool) → failing_of fails ≡ Err Damaged → ⊥
     failing true f = impossible (cc)
     failing false f = impossible (cc)
 
-    by : (k : Kind) (token fails : Bool) → halted_of k token fails ≡ Refused Damaged → ⊥
+    by : (k : Kind) (token fails : Bool) → halted_of k token fails ≡ Err Damaged → ⊥
     by Nothing token fails f = impossible (cc)
     by Park token true f = impossible (cc)
     by Park true false f = impossible (cc)
@@ -124,7 +118,7 @@ halted_other k token fails r e z = by k token fails (subst (λ x. halted_of k to
     by Subtract token fails f = failing fails f
     by Complete token fails f = failing fails f
 
-module _ (m : Machine) (ok : Ok m) (me : ThreadNumber) (tin : me.0 < m.count) (fails : Bool) where
+module _ (m : Machine) (ok : Sound m) (me : ThreadNumber) (tin : me.0 < m.count) (fails : Bool) where
   few : m.count ≤ thread_limit
   few = (good_count_lem m.count ok.good).1
 
@@ -138,9 +132,9 @@ module _ (m : Machine) (ok : Ok m) (me : ThreadNumber) (tin : me.0 < m.count) (f
       own : (upd (thread_at m) me.0 c.thread me.0).place ≡ c.thread.place
       own = ap (λ x. x.place) (upd_same (thread_at m) me.0 c.thread)
 
-      by : (w : Owner) → (woken_in (upd (thread_at m) me.0 c.thread) w me.0).place ≡ c.thread.place
-      by Nobody = own
-      by (Somebody u) = pick_both (λ (th : ℕ → Thread). (th me.0).place ≡ c.thread.place)
+      by : (w : Option ThreadNumber) → (woken_in (upd (thread_at m) me.0 c.thread) w me.0).place ≡ c.thread.place
+      by None = own
+      by (Some u) = pick_both (λ (th : ℕ → Thread). (th me.0).place ≡ c.thread.place)
           (ltb u.0 thread_limit) _ _
           (λ _. upd_cases (λ j x. x.place ≡ (upd (thread_at m) me.0 c.thread j).place)
           (upd (thread_at m) me.0 c.thread) u.0 _ refl (λ j ne. refl) me.0 ∙ own) (λ _. own)
@@ -149,7 +143,7 @@ module _ (m : Machine) (ok : Ok m) (me : ThreadNumber) (tin : me.0 < m.count) (f
   landed_safe : (mark : Mark) (j : ℕ) → j < thread_limit → (st : Stepped)
       → Kept (setting_of m ok me tin mark fails) (suc j) st
       → Safe m ok.ghost me (landed_of m me.0 j st)
-  landed_safe mark j l (To c) kept = record {
+  landed_safe mark j l (Ok c) kept = record {
     ok = record {
       good = rw (woken_count (stored_of m me.0 j c) c.woken) ok.good;
       sized = record {
@@ -172,25 +166,25 @@ module _ (m : Machine) (ok : Ok m) (me : ThreadNumber) (tin : me.0 < m.count) (f
         kept.2;
     not_eight = λ e. impossible (cc);
   }
-  landed_safe mark j l (Denied r) kept = absurd kept
+  landed_safe mark j l (Err r) kept = absurd kept
 
   -- the node that the step touches has a slot
   module _ (p : Place) (here : (thread_at m me.0).place ≡ p) where
     abbrev setting : Setting
     setting = setting_of m ok me tin (mark_of m (marked_of p)) fails
 
-    has_slot : slot_of (touched_of (access_of me p) me) m.count ≡ Outside → ⊥
+    has_slot : slot_of (touched_of (access_of me p) me) m.count ≡ None → ⊥
     has_slot e = by (touches ok.inv me p here)
       where
-        differ : (j : ℕ) → slot_of (touched_of (access_of me p) me) m.count ≡ At j → ⊥
+        differ : (j : ℕ) → slot_of (touched_of (access_of me p) me) m.count ≡ Some j → ⊥
         differ j f = impossible (cc)
 
         by : ((touched_of (access_of me p) me).0 ≡ me.0 + 1) ⊎ WaitingNode ok.inv (touched_of (access_of me p) me).0 → ⊥
         by (inl z) =
             differ _
-            (sym (pick_no (ltb (touched_of (access_of me p) me).0 1) _ Outside _
+            (sym (pick_no (ltb (touched_of (access_of me p) me).0 1) _ None _
             (le-ltb (touched_of (access_of me p) me).0 1 (omega arith))
-            (pick_no (ltb m.count (touched_of (access_of me p) me).0) _ Outside _
+            (pick_no (ltb m.count (touched_of (access_of me p) me).0) _ None _
             (le-ltb m.count (touched_of (access_of me p) me).0 (omega arith)) refl)))
         by (inr w) =
             let x = slot_waiting ok.inv (touched_of (access_of me p) me) w in
@@ -208,17 +202,17 @@ module _ (m : Machine) (ok : Ok m) (me : ThreadNumber) (tin : me.0 < m.count) (f
         mark true e = impossible (cc)
         mark false e = impossible (cc)
 
-        found : (j : ℕ) × (slot_of tail m.count ≡ At j) → mark_of m tail ≡ Missing → ⊥
-        found x = subst (λ (z : Slot). mark_by m z ≡ Missing → ⊥) (sym x.1) (mark (node_at m x.0).writer)
+        found : (j : ℕ) × (slot_of tail m.count ≡ Some j) → mark_of m tail ≡ Missing → ⊥
+        found x = subst (λ (z : Option ℕ). mark_by m z ≡ Missing → ⊥) (sym x.1) (mark (node_at m x.0).writer)
 
-    touching_safe : halted_of (access_of me p).kind (thread_at m me.0).token fails ≡ Fine
+    touching_safe : halted_of (access_of me p).kind (thread_at m me.0).token fails ≡ Ok tt
         → Safe m ok.ghost me (touching_by m me fails p (slot_of (touched_of (access_of me p) me) m.count))
     touching_safe fine = by (slot_of (touched_of (access_of me p) me) m.count) refl
       where
-        by : (z : Slot) → slot_of (touched_of (access_of me p) me) m.count ≡ z
+        by : (z : Option ℕ) → slot_of (touched_of (access_of me p) me) m.count ≡ z
             → Safe m ok.ghost me (touching_by m me fails p z)
-        by Outside e = absurd (has_slot e)
-        by (At j) e =
+        by None e = absurd (has_slot e)
+        by (Some j) e =
             let x = slot_at (touched_of (access_of me p) me) m.count j e in
             landed_safe (mark_of m (marked_of p)) j (omega (arith, few)) (advance_of (view_at m me j fails p) p)
             (subst (λ k. Goes setting k (λ v. advance_of v p)) (x.0 ∙ add-one j)
@@ -229,9 +223,9 @@ module _ (m : Machine) (ok : Ok m) (me : ThreadNumber) (tin : me.0 < m.count) (f
       where
         by : (v : Verdict) → halted_of (access_of me p).kind (thread_at m me.0).token fails ≡ v
             → Safe m ok.ghost me (step_by m me fails p v)
-        by (Refused r) e =
+        by (Err r) e =
             refused_safe m ok me r (halted_other (access_of me p).kind (thread_at m me.0).token fails r e)
-        by Fine e = touching_safe e
+        by (Ok _) e = touching_safe e
 
   step_safe : Safe m ok.ghost me (step_of m me fails)
   unfolding step_of
@@ -239,7 +233,7 @@ module _ (m : Machine) (ok : Ok m) (me : ThreadNumber) (tin : me.0 < m.count) (f
 
 -- ── a begin ──
 
-begin_safe : (m : Machine) (ok : Ok m) (me : ThreadNumber) → me.0 < m.count → (call : Call)
+begin_safe : (m : Machine) (ok : Sound m) (me : ThreadNumber) → me.0 < m.count → (call : Call)
     → Safe m ok.ghost me (begin_of m me.0 call)
 begin_safe m ok me tin call = pick_both (Safe m ok.ghost me) (is_idle (thread_at m me.0).place) _ _
     (λ idle. pick_both (Safe m ok.ghost me) (may_begin call (thread_at m me.0).holding) _ _
@@ -279,20 +273,20 @@ begin_safe m ok me tin call = pick_both (Safe m ok.ghost me) (is_idle (thread_at
 
 -- ── an event ──
 
-module _ (m : Machine) (ok : Ok m) (me : ThreadNumber) where
+module _ (m : Machine) (ok : Sound m) (me : ThreadNumber) where
   below : leb m.count me.0 ≡ false → me.0 < m.count
   below e = leb-false m.count me.0 e
 
   no_thread : Safe m ok.ghost me (refused_of m NoThread)
   no_thread = refused_safe m ok me NoThread (λ e. impossible (cc))
 
-  by_code : (c : Code) → Safe m ok.ghost me (event_by m c me)
-  by_code Unknown = refused_safe m ok me UnknownCode (λ e. impossible (cc))
-  by_code (Begin call) = pick_both (Safe m ok.ghost me) (leb m.count me.0) _ _ (λ _. no_thread)
+  by_code : (c : Option Code) → Safe m ok.ghost me (event_by m c me)
+  by_code None = refused_safe m ok me UnknownCode (λ e. impossible (cc))
+  by_code (Some (Begin call)) = pick_both (Safe m ok.ghost me) (leb m.count me.0) _ _ (λ _. no_thread)
       (λ e. begin_safe m ok me (below e) call)
-  by_code Step = pick_both (Safe m ok.ghost me) (leb m.count me.0) _ _ (λ _. no_thread)
+  by_code (Some Step) = pick_both (Safe m ok.ghost me) (leb m.count me.0) _ _ (λ _. no_thread)
       (λ e. step_safe m ok me (below e) false)
-  by_code Fail = pick_both (Safe m ok.ghost me) (leb m.count me.0) _ _ (λ _. no_thread)
+  by_code (Some Fail) = pick_both (Safe m ok.ghost me) (leb m.count me.0) _ _ (λ _. no_thread)
       (λ e. step_safe m ok me (below e) true)
 
   pub event_safe : (code : ℕ) → Safe m ok.ghost me (event_of m code me)

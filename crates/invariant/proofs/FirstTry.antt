@@ -1,13 +1,11 @@
 -- try_read and try_write, which read and write attempt first: each place's rule keeps the invariant.
 -- Assumes nothing.
-use Rattle.std.specs.Prelude.{ℕ, Bool, true, false, ◌≡◌, refl}
+use Rattle.std.specs.Prelude.{ℕ, Bool, true, false, ◌≡◌, refl, Option, Some, None}
 use Rattle.std.proofs.Common.{ap, ◌∙◌}
 use Rattle.word.specs.Cases.{pick_both}
 use Rattle.word.specs.Flags.{locked}
 use Rattle.word.specs.Rules.{read_lock_of}
 use Rattle.word.specs.declared.flags.Word.{Word}
-use Rattle.word.specs.declared.rules.ReadLocked.{ReadLocked}
-use Rattle.word.specs.declared.rules.ReadLocked.TheVariants.{To, Refused}
 use Rattle.state.specs.View.{granted, stays, writes}
 use Rattle.state.specs.declared.holding.Holding.{Holding}
 use Rattle.state.specs.declared.place.Place.{Place}
@@ -47,13 +45,13 @@ module _ (st : Setting) (k : ℕ) where
     on_to q o a needs leaves =
         goes_off_queue st is_first q o a (never needs) (rw (leaves, told)) (rw told (never refl))
 
-    judged : (blocking : Bool) (r : ReadLocked) → Kept st k (try_read_by (look_at st k) blocking s.word r)
-    judged blocking (To to) =
+    judged : (blocking : Bool) (r : Option Word) → Kept st k (try_read_by (look_at st k) blocking s.word r)
+    judged blocking (Some to) =
         kept_stood st k here unmoved _ _ refl
         (on_to (TryReadCas blocking s.word) (off_queue_lem _ _ _ _) nothing refl refl)
-    judged true Refused =
+    judged true None =
         kept_stood st k here unmoved _ _ refl (on_to (ContendLoad false 0) (off_queue_lem _ _ _ _) nothing refl refl)
-    judged false Refused = kept_stood st k here unmoved _ _ refl (on_to Idle (off_queue_lem _ _ _ _) tt refl refl)
+    judged false None = kept_stood st k here unmoved _ _ refl (on_to Idle (off_queue_lem _ _ _ _) tt refl refl)
 
   pub kept_try_read_load : (blocking : Bool) → (mine st).place ≡ TryReadLoad blocking
       → Goes st k (λ v. try_read_load_of v blocking)
@@ -72,14 +70,14 @@ module _ (st : Setting) (k : ℕ) where
       again : Kept st k (try_read_judged (look_at st k) blocking s.word)
       again = judged here refl refl blocking (read_lock_of s.word)
 
-      by : s.word ≡ seen → (r : ReadLocked) → read_lock_of seen ≡ r
+      by : s.word ≡ seen → (r : Option Word) → read_lock_of seen ≡ r
           → Kept st k (try_read_cas_by (look_at st k) blocking r)
-      by same (To to) e =
+      by same (Some to) e =
           at_end_lem here refl blocking to _
           (ends_call st _ to _
           (ended_read st (is_first here refl refl) (nothing here refl refl) (no_leaver here refl refl) to
           (ap read_lock_of same ∙ e)))
-      by same Refused e = again
+      by same None e = again
 
   pub kept_try_write_or : (blocking : Bool) → (mine st).place ≡ TryWriteOr blocking
       → Goes st k (λ v. try_write_or_of v blocking)

@@ -1,7 +1,7 @@
 -- A step at any place: the node that it touches is its own or waits, and its rule keeps the invariant. One row for
 -- each place.
 -- Assumes nothing.
-use Rattle.std.specs.Prelude.{ℕ, suc, ◌+◌, ◌-◌, ◌≤◌, ◌<◌, Bool, true, ◌⊎◌, ◌≡◌, ltb}
+use Rattle.std.specs.Prelude.{ℕ, suc, ◌+◌, ◌-◌, ◌≤◌, ◌<◌, Bool, true, ◌⊎◌, ◌≡◌, ltb, Ok, Some, None}
 use Rattle.std.proofs.Math.Logic.{inl, inr}
 use Rattle.std.proofs.Math.Path.{refl}
 use Rattle.std.proofs.Common.{sym, subst, add-one, arith, le-ltb}
@@ -9,11 +9,9 @@ use Rattle.word.specs.Cases.{pick_no}
 use Rattle.word.specs.Number.{none, slot_of}
 use Rattle.word.specs.declared.flags.Word.{Word}
 use Rattle.word.specs.declared.number.NodeNumber.{NodeNumber}
-use Rattle.word.specs.declared.number.Slot.TheVariants.{Outside, At}
 use Rattle.word.specs.declared.number.ThreadNumber.{ThreadNumber}
 use Rattle.state.specs.Access.{access_of, touched_of}
 use Rattle.state.specs.Machine.{thread_limit}
-use Rattle.state.specs.declared.answer.Verdict.TheVariants.{Fine}
 use Rattle.state.specs.declared.place.Walk.{Walk}
 use Rattle.state.specs.declared.place.Place.{Place}
 use Rattle.state.specs.declared.place.Place.TheVariants as At
@@ -118,18 +116,18 @@ module _ {n : ℕ} {s : Lock} {g : Ghost} (i : Inv n s g) where
   marks t (At.DowngradeSlowCas _) here = inl refl
 
   -- a node that waits has a slot
-  pub slot_waiting : (k : NodeNumber) → WaitingNode k.0 → (j : ℕ) × (slot_of k n ≡ At j)
+  pub slot_waiting : (k : NodeNumber) → WaitingNode k.0 → (j : ℕ) × (slot_of k n ≡ Some j)
   slot_waiting k w =
       let x : WaiterOf s k.0 = waiter_of_lem s k.0 w in
       let l : x.thread < n = inside i x.thread (λ a. a.registered) refl x.registered in (
         k.0 - 1,
-        sym (pick_no (ltb k.0 1) _ Outside _ (le-ltb k.0 1 (omega (arith, x.node)))
-            (pick_no (ltb n k.0) _ Outside _ (le-ltb n k.0 (omega (arith, x.node))) refl)),
+        sym (pick_no (ltb k.0 1) _ None _ (le-ltb k.0 1 (omega (arith, x.node)))
+            (pick_no (ltb n k.0) _ None _ (le-ltb n k.0 (omega (arith, x.node))) refl)),
       )
 
   -- the tail that a walk found has a slot too
   pub slot_marked : (t : ℕ) (k : Walk) (seen : Word) (tail : NodeNumber) → (s.th t).place ≡ At.WalkHead k seen tail
-      → (j : ℕ) × (slot_of tail n ≡ At j)
+      → (j : ℕ) × (slot_of tail n ≡ Some j)
   slot_marked t k seen tail here = slot_waiting tail (names t (At.WalkHead k seen tail) here).1
 
 -- ── what a step does ──
@@ -142,7 +140,7 @@ module _ (st : Setting) (few : st.n ≤ thread_limit) where
 
   -- the rule of every place keeps the invariant, where the step is not halted and a walk's tail has its mark
   pub kept_everywhere : (p : Place) → (mine st).place ≡ p → (token : Bool)
-      → halted_of (access_of me p).kind token st.fails ≡ Fine
+      → halted_of (access_of me p).kind token st.fails ≡ Ok tt
       → ((k : Walk) (seen : Word) (tail : NodeNumber) → p ≡ At.WalkHead k seen tail → st.mark ≡ Missing → ⊥)
       → Goes st (touched_of (access_of me p) me).0 (λ v. advance_of v p)
   unfolding access_of advance_of

@@ -1,7 +1,7 @@
 -- complete_all: load prev, complete the node and wake its owner, which may be the waker itself. Each place's rule
 -- keeps the invariant; a waker passes on that somebody sees to the queue.
 -- Assumes nothing.
-use Rattle.std.specs.Prelude.{ℕ, zero, suc, ◌-◌, ◌≤◌, ◌<◌, Bool, true, false, not, ◌≢◌, ◌⊎◌, ◌≡◌, refl, ltb}
+use Rattle.std.specs.Prelude.{ℕ, zero, suc, ◌-◌, ◌≤◌, ◌<◌, Bool, true, false, not, ◌≢◌, ◌⊎◌, ◌≡◌, refl, ltb, Some, None}
 use Rattle.std.proofs.Common.{inl, inr, sym, ap, ◌∙◌, subst, arith, eqb-true, lt-ltb, le-ltb}
 use Rattle.std.proofs.Math.Path.{fun_ext}
 use Rattle.std.proofs.lemmas.Bool.{eqb-false}
@@ -9,7 +9,6 @@ use Rattle.word.specs.Base.{pick}
 use Rattle.word.specs.Cases.{pick_both, pick_yes, pick_no}
 use Rattle.word.specs.Number.{thread, is_none, owner_of}
 use Rattle.word.specs.declared.number.NodeNumber.{NodeNumber}
-use Rattle.word.specs.declared.number.Owner.TheVariants.{Nobody, Thread as Somebody}
 use Rattle.state.specs.Machine.{thread_limit}
 use Rattle.state.specs.Node.{with_completed}
 use Rattle.state.specs.View.{after_queue}
@@ -194,12 +193,12 @@ module _ {n : ℕ} {s : Lock} {g : Ghost} (i : Inv n s g) (t : ℕ) (tin : t < n
 -- ── the token is set after the store; it might as well be set before ──
 
 -- a thread below the limit owns the node above it
-owner_of_lem : (k : NodeNumber) (u : ℕ) → suc u ≡ k.0 → u < thread_limit → owner_of k ≡ Somebody (thread u)
+owner_of_lem : (k : NodeNumber) (u : ℕ) → suc u ≡ k.0 → u < thread_limit → owner_of k ≡ Some (thread u)
 owner_of_lem k u e l =
     let less : k.0 - 1 ≡ u = omega arith in
-    sym (pick_no (ltb k.0 1) _ Nobody _ (le-ltb k.0 1 (omega arith))
-    (pick_no (ltb 256 k.0) _ Nobody _ (le-ltb 256 k.0 (omega arith))
-    (ap (λ z. Somebody (thread z)) (sym less))))
+    sym (pick_no (ltb k.0 1) _ None _ (le-ltb k.0 1 (omega arith))
+    (pick_no (ltb 256 k.0) _ None _ (le-ltb 256 k.0 (omega arith))
+    (ap (λ z. Some (thread z)) (sym less))))
 
 woken_before : (th : ℕ → Thread) (t u : ℕ) (p : Place)
     → upd (upd th u (tokened_of (th u))) t (placed (upd th u (tokened_of (th u)) t) p)

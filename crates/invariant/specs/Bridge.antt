@@ -2,12 +2,11 @@
 -- change is the change. One bridge, for all places.
 -- Assumes nothing.
 use Rattle.std.specs.Prelude.{ℕ, zero, suc, ◌<◌, Bool, true, false, List, ◌⊎◌, ◌≢◌, ◌≡◌, refl, ltb, length, get_or, set}
-use Rattle.std.specs.Prelude.{replicate}
+use Rattle.std.specs.Prelude.{replicate, Option, Some, None}
 use Rattle.std.proofs.Common.{inl, inr, sym, ◌∙◌, arith, length-set, get_or-set_same, get_or-set_other, ltb-true}
 use Rattle.std.proofs.Math.Path.{fun_ext}
 use Rattle.word.specs.Base.{pick}
-use Rattle.word.specs.declared.number.Owner.{Owner}
-use Rattle.word.specs.declared.number.Owner.TheVariants.{Nobody, Thread as Somebody}
+use Rattle.word.specs.declared.number.ThreadNumber.{ThreadNumber}
 use Rattle.state.specs.Machine.{thread_limit, blank_thread, thread_at, made_of, Sized}
 use Rattle.state.specs.Node.{blank_node}
 use Rattle.state.specs.declared.machine.Machine.{Machine}
@@ -50,10 +49,10 @@ thread_stored m t x l =
     λ i. record { word = m.word; th = at_set m.threads blank_thread t x l i; nd = node_in m.nodes }
 
 -- a thread woken
-woken : (m : Machine) (w : Owner) → length m.threads ≡ thread_limit
+woken : (m : Machine) (w : Option ThreadNumber) → length m.threads ≡ thread_limit
     → lock_of (woken_of m w) ≡ record { word = m.word; th = woken_in (thread_at m) w; nd = node_in m.nodes }
-woken m Nobody e = refl
-woken m (Somebody u) e = by (ltb u.0 thread_limit) refl
+woken m None e = refl
+woken m (Some u) e = by (ltb u.0 thread_limit) refl
   where
     by : (b : Bool) → ltb u.0 thread_limit ≡ b
         → lock_of (pick b (with_thread m u.0 (tokened_of (thread_at m u.0))) m)

@@ -5,12 +5,10 @@
 --     Kept         the rule does not refuse, the machine after it has the invariant, and the tickets went by its effect
 --     kept_still   so where no node changes; kept_stood, where no ticket moves either
 -- Assumes nothing.
-use Rattle.std.specs.Prelude.{ℕ, ◌<◌, Bool, true, false, ◌≡◌, ltb}
+use Rattle.std.specs.Prelude.{ℕ, ◌<◌, Bool, true, false, ◌≡◌, ltb, Err, Ok, Option, Some, None}
 use Rattle.std.proofs.Common.{sym, subst}
 use Rattle.word.specs.Base.{pick}
 use Rattle.word.specs.declared.flags.Word.{Word}
-use Rattle.word.specs.declared.number.Owner.{Owner}
-use Rattle.word.specs.declared.number.Owner.TheVariants.{Nobody, Thread as Somebody}
 use Rattle.word.specs.declared.number.ThreadNumber.{ThreadNumber}
 use Rattle.word.specs.Cases.{pick_both}
 use Rattle.state.specs.Machine.{thread_limit}
@@ -18,12 +16,10 @@ use Rattle.state.specs.declared.machine.Thread.{Thread}
 use Rattle.state.specs.declared.place.Place.{Place}
 use Rattle.state.specs.declared.view.Change.{Change}
 use Rattle.state.specs.declared.view.Mark.{Mark}
-use Rattle.state.specs.declared.view.Stepped.{Stepped}
-use Rattle.state.specs.declared.view.Stepped.TheVariants.{To, Refused}
 use Rattle.state.specs.declared.view.View.{View}
 use Rattle.state.specs.declared.node.Node.{Node}
 use Rattle.state.specs.declared.holding.Holding.{Holding}
-use Rattle.state.specs.View.{agrees_of}
+use Rattle.state.specs.View.{agrees_of, Stepped}
 use Rattle.lock.specs.Landed.{tokened_of}
 use Rattle.queue.specs.Updates.{upd, upd_self}
 use Rattle.queue.specs.Tickets.{Ghost}
@@ -60,9 +56,9 @@ look_at st k =
       fails = st.fails;
     }
 
-abbrev pub woken_in : (ℕ → Thread) → Owner → ℕ → Thread
-woken_in th Nobody = th
-woken_in th (Somebody u) = pick (ltb u.0 thread_limit) (upd th u.0 (tokened_of (th u.0))) th
+abbrev pub woken_in : (ℕ → Thread) → Option ThreadNumber → ℕ → Thread
+woken_in th None = th
+woken_in th (Some u) = pick (ltb u.0 thread_limit) (upd th u.0 (tokened_of (th u.0))) th
 
 abbrev pub after_change : Lock → ℕ → ℕ → Change → Lock
 after_change s t k c =
@@ -73,10 +69,10 @@ after_change s t k c =
     }
 
 abbrev pub Kept : Setting → ℕ → Stepped → Type 0
-Kept st k (To c) =
+Kept st k (Ok c) =
     (h : Ghost) × Inv st.n (after_change st.s st.me.0 k c) h
     × Went st.me (mine st).place st.g c.thread.place h
-Kept st k (Refused r) = ⊥
+Kept st k (Err r) = ⊥
 
 -- so does the rule of a place, given what the thread may look at with node k
 abbrev pub Goes : Setting → ℕ → (View → Stepped) → Type 0

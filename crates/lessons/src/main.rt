@@ -7,20 +7,25 @@ use console::runs::trace_received;
 use print::Line;
 use std::rt::Files;
 
-fn lesson(rt: &(impl Files + Print + Eprint + AllocGlobal), name: &[u8]) {
-    write_line(rt, Line::blank().text(b"== ").text(name));
+const LESSONS: [&str; 7] = [
+    "weak-compare.schedule",
+    "reader-count.schedule",
+    "stale-next.schedule",
+    "barging.schedule",
+    "retracted-downgrade.schedule",
+    "failed-split.schedule",
+    "lost-wake-up.schedule",
+];
+
+fn lesson(rt: &(impl Files + Print + Eprint + AllocGlobal), name: &str) {
+    write_line(rt, Line::blank().text(b"== ").text(name.as_bytes()));
     let mut file = [0u8; ENOUGH];
-    let got = receive_named(rt, name, &mut file);
-    let reading = got.reading;
-    trace_received(rt, reading, &file[..got.length]);
+    let got = receive_named(rt, name.as_bytes(), &mut file);
+    trace_received(rt, got.reading, &file[..got.length]);
 }
 
 fn main(rt: HostRuntime) {
-    lesson(&rt, b"weak-compare.schedule");
-    lesson(&rt, b"reader-count.schedule");
-    lesson(&rt, b"stale-next.schedule");
-    lesson(&rt, b"barging.schedule");
-    lesson(&rt, b"retracted-downgrade.schedule");
-    lesson(&rt, b"failed-split.schedule");
-    lesson(&rt, b"lost-wake-up.schedule");
+    for name in LESSONS {
+        lesson(&rt, name);
+    }
 }

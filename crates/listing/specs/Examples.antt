@@ -1,10 +1,10 @@
 -- Listings and reader counts of written machines: document 01's, and damaged ones, on both sides of an edge.
 -- Assumes nothing.
-use Rattle.std.specs.Prelude.{ℕ, ◌+◌, Bool, true, false, [], ◌∷◌, ◌≡◌, refl}
+use Rattle.std.specs.Prelude.{ℕ, ◌+◌, Bool, true, false, [], ◌∷◌, ◌≡◌, refl, Result, Ok}
 use Rattle.word.specs.Number.{node, none}
 use Rattle.word.specs.Flags.{word, DOWNGRADED}
 use Rattle.state.specs.Machine.{thread_limit}
-use Rattle.state.specs.declared.answer.Verdict.TheVariants.{Fine}
+use Rattle.state.specs.declared.answer.Refusal.{Refusal}
 use Rattle.state.specs.declared.holding.Holding.{Holding}
 use Rattle.state.specs.declared.holding.Holding.TheVariants.{Nothing, Read, Write}
 use Rattle.state.specs.declared.machine.Machine.{Machine}
@@ -81,8 +81,8 @@ no_threads = refl
 pub threads_past_the_limit : listed_of (unqueued (thread_limit + 1) 0) ≡ lost
 threads_past_the_limit = refl
 
-abbrev found : ℕ → Sits → ℕ → Bool → Readers
-found r sits raw agrees = record { readers = r; sits = sits; raw = raw; agrees = agrees; verdict = Fine }
+abbrev found : ℕ → Sits → ℕ → Bool → Result Readers Refusal
+found r sits raw agrees = Ok (record { readers = r; sits = sits; raw = raw; agrees = agrees })
 
 -- two readers, and the word that they make
 pub in_word_lem : readers_of (unqueued 3 33) ≡ found 2 InWord 33 true

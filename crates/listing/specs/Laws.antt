@@ -4,41 +4,41 @@
 --     waiters_most, waiters_within     it has at most as many nodes as the count, each in 1..count
 --     waiters_first, waiters_linked    the first is the word's node, each other the one that the next of the node
 --                                      before links to
---     waiters_some, waiters_met        of a queued word, unless refused: it has a node, and ends on the first tail
---                                      that it met
---     waiters_refused                  refused, it is 8, with no nodes
---     waiters_others                   past its length the array has no node
+--     waiters_others                   past its length it has no node
+--     waiters_some, waiters_met        of a queued word: it has a node, and ends on the first tail that it met
+--     waiters_refused                  refused, it is 8
 --     reads_most                       n threads have at most n reads
 -- Assumes nothing.
 use Rattle.std.specs.Prelude.{ℕ, zero, suc, ◌+◌, ◌-◌, ◌≤◌, ◌<◌, true, false, List, [], ◌∷◌, ◌≡◌, refl, ltb, leb, eqb}
-use Rattle.std.specs.Prelude.{length, get_or, replicate}
-use Rattle.std.proofs.Common.{sym, ap, ◌∙◌, le_of_suc-le-suc, add-one, arith, ltb-false, leb-true, eqb-true}
-use Rattle.std.proofs.Common.{get_or-append-add}
-use Rattle.std.proofs.Math.ListN.{get_or-append}
+use Rattle.std.specs.Prelude.{length, get_or, take, Ok, Err}
+use Rattle.std.proofs.Common.{sym, ap, ◌∙◌, subst, le_of_suc-le-suc, add-one, arith, ltb-false, leb-true, eqb-true}
+use Rattle.std.proofs.lemmas.List.{get_or-take, get_or_past}
 use Rattle.word.specs.Base.{pick}
 use Rattle.word.specs.Cases.{pick_both, pick_second}
 use Rattle.word.specs.Number.{node, none, is_none}
 use Rattle.word.specs.Flags.{queued, to_node}
 use Rattle.word.specs.declared.number.NodeNumber.{NodeNumber}
 use Rattle.state.specs.Holding.{reads_of}
-use Rattle.state.specs.Machine.{thread_limit, good_count, thread_at}
+use Rattle.state.specs.Machine.{thread_limit, good_count, thread_at, blank_thread}
 use Rattle.state.specs.declared.answer.Refusal.{Refusal}
 use Rattle.state.specs.declared.answer.Refusal.TheVariants.{Damaged}
-use Rattle.state.specs.declared.answer.Verdict.TheVariants.{Fine, Refused}
 use Rattle.state.specs.declared.holding.Holding.{Holding}
 use Rattle.state.specs.declared.holding.Holding.TheVariants.{Nothing, Read, Write}
 use Rattle.state.specs.declared.machine.Machine.{Machine}
 use Rattle.listing.specs.Listing.{Listed, lost, listed, prepend, within, node_by, link_of, stand, to_tail, to_set}
-use Rattle.listing.specs.Listing.{followed_of, listed_of, padded, empty_of, waiters_by, waiters_of}
+use Rattle.listing.specs.Listing.{followed_of, listed_of, Waiters, waiters_by, waiters_of}
 use Rattle.listing.specs.ReaderCount.{reads_below}
-use Rattle.listing.specs.declared.listing.Waiters.{Waiters}
 
 -- a number that passes for one in 1..most is one
 pub in_range : (n most : ℕ) → pick (ltb n 1) false (leb n most) ≡ true → (1 ≤ n) × (n ≤ most)
 in_range n most e =
-    let never : false ≡ true → ⊥ = λ h. let bad : ◌≡◌ {A = ℕ} 0 1 = cc in omega arith in
+    let never : false ≡ true → ⊥ = λ h. cc in
     let both = pick_second (ltb n 1) false (leb n most) true never e in
     (ltb-false n 1 both.0, leb-true n most both.1)
+
+-- a machine has no more threads than the limit
+pub few_threads : (count : ℕ) → good_count count ≡ true → count ≤ thread_limit
+few_threads count good = (in_range count thread_limit good).1
 
 -- at most `left` nodes of the machine: `at`, and then each the one that the next of the node before links to
 data Trail (m : Machine) : ℕ → NodeNumber → List NodeNumber → Type 0 where
@@ -202,32 +202,6 @@ set_met (suc left) m at =
     (λ set. mapped (Onto tail at) after (λ ns. met_here m at ns set) (to_tail left m tail at)
     (tail_onto left m tail at)))
 
--- below the length an array's elements are the listing's nodes, and past it none
-pub kept_at : (ns : List NodeNumber) (k : ℕ) → k < length ns → get_or (padded ns) k none ≡ get_or ns k none
-kept_at ns k b = get_or-append ns (replicate (thread_limit - length ns) none) none k b
-
-blank_at : (n k : ℕ) → get_or (replicate n none) k none ≡ none
-blank_at zero k = refl
-blank_at (suc n) zero = refl
-blank_at (suc n) (suc k) = blank_at n k
-
-none_at : (ns : List NodeNumber) (k : ℕ) → length ns ≤ k → get_or (padded ns) k none ≡ none
-none_at ns k b =
-    let past : length ns + (k - length ns) ≡ k = omega arith in
-    ap (λ i. get_or (padded ns) i none) (sym past)
-    ∙ get_or-append-add ns (replicate (thread_limit - length ns) none) (k - length ns) none
-    ∙ blank_at (thread_limit - length ns) (k - length ns)
-
-met_padded : (m : Machine) (ns : List NodeNumber) → MetIn m ns → Met m (padded ns) (length ns)
-met_padded m ns met =
-    record {
-      at = met.at;
-      below = met.below;
-      before = λ k b. rw (kept_at ns k (omega arith)) (met.before k b);
-      set = rw (kept_at ns met.at met.below) met.set;
-      last = rw (kept_at ns met.at met.below, kept_at ns (length ns - 1) (omega arith)) met.last;
-    }
-
 module _ (m : Machine) where
   abbrev FromWord : List NodeNumber → Type 0
   FromWord = Trail m m.count (to_node m.word)
@@ -249,77 +223,73 @@ module _ (m : Machine) where
       (λ _. tt)
 
   -- a listing is lost, or its nodes are a trail from the word's
-  waiters_cases : (P : Waiters → Type 0)
-      → P (waiters_by lost)
-      → ((ns : List NodeNumber) → FromWord ns → P (waiters_by (listed ns)))
-      → P (waiters_of m)
-  waiters_cases P gone kept = cases (listed_of m) listed_trail
+  listed_cases : (P : List NodeNumber → Type 0)
+      → ((ns : List NodeNumber) → FromWord ns → P ns)
+      → (w : Waiters)
+      → waiters_of m ≡ Ok w
+      → P w.items
+  listed_cases P kept w = cases (listed_of m) listed_trail
     where
-      cases : (l : Listed) → Holds FromWord l → P (waiters_by l)
-      cases lost t = gone
-      cases (listed ns) t = kept ns t
+      cases : (l : Listed) → Holds FromWord l → waiters_by l ≡ Ok w → P w.items
+      cases lost t e = absurd (cc)
+      cases (listed ns) t e = let same : ns ≡ w.items = cc in subst P same (kept ns t)
 
   -- 8 on a bad thread count, whatever the word
-  pub waiters_bad_count : good_count m.count ≡ false → waiters_of m ≡ empty_of (Refused Damaged)
+  pub waiters_bad_count : good_count m.count ≡ false → waiters_of m ≡ Err Damaged
   waiters_bad_count bad = simp bad
 
   -- empty if unqueued
-  pub waiters_unqueued : good_count m.count ≡ true → queued m.word ≡ false → waiters_of m ≡ empty_of Fine
+  pub waiters_unqueued : good_count m.count ≡ true → queued m.word ≡ false → waiters_of m ≡ Ok (record { items = [] })
   waiters_unqueued good unqueued = simp (good, unqueued)
 
-  -- a listing has at most as many nodes as the count
-  pub waiters_most : (waiters_of m).length ≤ m.count
-  waiters_most = waiters_cases (λ w. w.length ≤ m.count) (omega arith) (λ ns t. trail_most t)
-
-  -- each in 1..count
-  pub waiters_within : (k : ℕ) → k < (waiters_of m).length → within m.count (get_or (waiters_of m).nodes k none) ≡ true
-  waiters_within k =
-      waiters_cases (λ w. k < w.length → within m.count (get_or w.nodes k none) ≡ true)
-      (λ b. absurd (omega arith))
-      (λ ns t b. rw (kept_at ns k b) (trail_within t k b))
-
-  -- the first is the newest waiter, which the word names
-  pub waiters_first : 1 ≤ (waiters_of m).length → get_or (waiters_of m).nodes 0 none ≡ to_node m.word
-  waiters_first =
-      waiters_cases (λ w. 1 ≤ w.length → get_or w.nodes 0 none ≡ to_node m.word)
-      (λ b. absurd (omega arith))
-      (λ ns t b. kept_at ns 0 b ∙ trail_first t b)
-
-  -- each other is the node that the next of the one before links to
-  pub waiters_linked : (k : ℕ)
-      → suc k < (waiters_of m).length
-      → get_or (waiters_of m).nodes (suc k) none ≡ link_of m (get_or (waiters_of m).nodes k none)
-  waiters_linked k =
-      waiters_cases (λ w. suc k < w.length → get_or w.nodes (suc k) none ≡ link_of m (get_or w.nodes k none))
-      (λ b. absurd (omega arith))
-      (λ ns t b. kept_at ns (suc k) b ∙ trail_linked t k b ∙ ap (link_of m) (sym (kept_at ns k (omega arith))))
-
-  -- of a queued word, unless refused, it ends on the first tail that it met
-  pub waiters_met : queued m.word ≡ true
-      → (waiters_of m).verdict ≡ Fine
-      → Met m (waiters_of m).nodes (waiters_of m).length
-  waiters_met queue = cases (listed_of m) (listed_met queue)
+  -- refused, it is 8
+  pub waiters_refused : (r : Refusal) → waiters_of m ≡ Err r → waiters_of m ≡ Err Damaged
+  waiters_refused r = cases (listed_of m)
     where
-      cases : (l : Listed)
-          → Holds (MetIn m) l
-          → (waiters_by l).verdict ≡ Fine
-          → Met m (waiters_by l).nodes (waiters_by l).length
-      cases lost met fine = let bad : ◌≡◌ {A = ℕ} 0 1 = cc in absurd (omega arith)
-      cases (listed ns) met fine = met_padded m ns met
+      cases : (l : Listed) → waiters_by l ≡ Err r → waiters_by l ≡ Err Damaged
+      cases lost e = refl
+      cases (listed ns) e = absurd (cc)
 
-  -- and so has a node
-  pub waiters_some : queued m.word ≡ true → (waiters_of m).verdict ≡ Fine → 1 ≤ (waiters_of m).length
-  waiters_some queue fine = omega (arith, (waiters_met queue fine).below)
+  module _ (w : Waiters) (is : waiters_of m ≡ Ok w) where
+    -- a listing has at most as many nodes as the count
+    pub waiters_most : length w.items ≤ m.count
+    waiters_most = listed_cases (λ ns. length ns ≤ m.count) (λ ns t. trail_most t) w is
 
-  -- refused, it is 8, with no nodes
-  pub waiters_refused : (r : Refusal) → (waiters_of m).verdict ≡ Refused r → waiters_of m ≡ empty_of (Refused Damaged)
-  waiters_refused r =
-      waiters_cases (λ w. w.verdict ≡ Refused r → w ≡ empty_of (Refused Damaged)) (λ _. refl) (λ ns t e. cc)
+    -- each in 1..count
+    pub waiters_within : (k : ℕ) → k < length w.items → within m.count (get_or w.items k none) ≡ true
+    waiters_within =
+        listed_cases (λ ns. (k : ℕ) → k < length ns → within m.count (get_or ns k none) ≡ true)
+        (λ ns t. trail_within t) w is
 
-  -- past its length its array has no node
-  pub waiters_others : (k : ℕ) → (waiters_of m).length ≤ k → get_or (waiters_of m).nodes k none ≡ none
-  waiters_others k =
-      waiters_cases (λ w. w.length ≤ k → get_or w.nodes k none ≡ none) (none_at [] k) (λ ns t. none_at ns k)
+    -- the first is the newest waiter, which the word names
+    pub waiters_first : 1 ≤ length w.items → get_or w.items 0 none ≡ to_node m.word
+    waiters_first =
+        listed_cases (λ ns. 1 ≤ length ns → get_or ns 0 none ≡ to_node m.word) (λ ns t. trail_first t) w is
+
+    -- each other is the node that the next of the one before links to
+    pub waiters_linked : (k : ℕ)
+        → suc k < length w.items
+        → get_or w.items (suc k) none ≡ link_of m (get_or w.items k none)
+    waiters_linked =
+        listed_cases
+        (λ ns. (k : ℕ) → suc k < length ns → get_or ns (suc k) none ≡ link_of m (get_or ns k none))
+        (λ ns t. trail_linked t) w is
+
+    -- past its length it has no node
+    pub waiters_others : (k : ℕ) → length w.items ≤ k → get_or w.items k none ≡ none
+    waiters_others k past = get_or_past w.items k none past
+
+    -- of a queued word it ends on the first tail that it met
+    pub waiters_met : queued m.word ≡ true → Met m w.items (length w.items)
+    waiters_met queue = cases (listed_of m) (listed_met queue) is
+      where
+        cases : (l : Listed) → Holds (MetIn m) l → waiters_by l ≡ Ok w → MetIn m w.items
+        cases lost met e = absurd (cc)
+        cases (listed ns) met e = let same : ns ≡ w.items = cc in subst (MetIn m) same met
+
+    -- and so has a node
+    pub waiters_some : queued m.word ≡ true → 1 ≤ length w.items
+    waiters_some queue = omega (arith, (waiters_met queue).below)
 
 pub reads_one : (h : Holding) → reads_of h ≤ 1
 reads_one Nothing = omega arith
@@ -330,8 +300,19 @@ pub reads_more : (n : ℕ) (m : Machine) → reads_below (n + 1) m ≡ reads_bel
 unfolding reads_below
 reads_more n m = rw add-one
 
+pub reads_none : (m : Machine) → 0 ≡ reads_below 0 m
+unfolding reads_below
+reads_none m = refl
+
 -- n threads have at most n reads
 pub reads_most : (n : ℕ) (m : Machine) → reads_below n m ≤ n
 unfolding reads_below
 reads_most zero m = omega arith
 reads_most (suc n) m = omega (arith, reads_most n m, reads_one (thread_at m n).holding)
+
+-- for the loop that counts those of the first n threads
+pub reads_on : (n k : ℕ) (m : Machine) → k < n
+    → reads_below k m + reads_of (get_or (take n m.threads) k blank_thread).holding ≡ reads_below (k + 1) m
+reads_on n k m h = rw (get_or-take n m.threads k blank_thread h) (sym (reads_more k m))
+
+pub ruleset reads_counted = (reads_none, reads_one, reads_on, reads_most)

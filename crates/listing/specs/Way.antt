@@ -1,21 +1,18 @@
--- A listing on its way: the nodes stood on so far are the first `visits` of an array whose others are none.
+-- A listing on its way: what a visit of a node adds.
 -- Assumes nothing.
-use Rattle.std.specs.Prelude.{ℕ, ◌≤◌, List, [], ◌∷◌, ◌≡◌, take}
+use Rattle.std.specs.Prelude.{◌≤◌, ◌<◌, false, true, List, [], ◌∷◌, ◌++◌, ◌⊎◌, ◌≡◌, length}
 use Rattle.word.specs.declared.number.NodeNumber.{NodeNumber}
-use Rattle.state.specs.Machine.{thread_limit}
 use Rattle.state.specs.declared.machine.Machine.{Machine}
-use Rattle.listing.specs.Listing.{Listed, prepend, padded, waiters_by}
-use Rattle.listing.specs.declared.listing.Waiters.{Waiters}
+use Rattle.state.specs.declared.node.Node.{Node}
+use Rattle.listing.specs.Listing.{within, node_by}
 
-pub record Way (m : Machine) (nodes : List NodeNumber) (visits : ℕ) : Type 0 where
-  pub count : m.count ≤ thread_limit
-  pub bound : visits ≤ m.count
-  pub others : nodes ≡ padded (take visits nodes)
+-- the node is in range and is listed after the others, which are fewer than the count
+pub record Stood (m : Machine) (at : NodeNumber) (before after : List NodeNumber) (n : Node) : Type 0 where
+  pub inside : within m.count at ≡ true
+  pub its : n ≡ node_by m at
+  pub room : length before < m.count
+  pub listed : after ≡ before ++ at ∷ []
 
-abbrev pub prepend_all : List NodeNumber → Listed → Listed
-prepend_all [] l = l
-prepend_all (n ∷ ns) l = prepend n (prepend_all ns l)
-
--- what is listed so far, and what is still to come
-abbrev pub joined : List NodeNumber → ℕ → Listed → Waiters
-joined nodes visits l = waiters_by (prepend_all (take visits nodes) l)
+-- no visit is left, or the node is out of range
+abbrev pub CannotStand : Machine → NodeNumber → List NodeNumber → Type 0
+CannotStand m at before = (m.count ≤ length before) ⊎ (within m.count at ≡ false)

@@ -1,142 +1,70 @@
 // The waiter listing: from the newest waiter by next to the first node whose tail is set, and on to that tail.
-ghost use Rattle.std.specs.Prelude.{true, ◌≡◌, ◌-◌, ◌≤◌};
+ghost use Rattle.std.specs.Prelude.{◌≡◌, ◌≤◌, IfOk, IfErr};
 ghost use Rattle.state.specs.Machine.{thread_limit};
-ghost use Rattle.listing.specs.Listing.{within, node_by, to_tail, followed_of};
-ghost use Rattle.listing.specs.Listing.{empty_of, from_head_of, waiters_by, waiters_of};
-ghost use Rattle.listing.specs.Way.{Way, joined};
+ghost use Rattle.state.specs.declared.answer.Refusal.TheVariants.{Damaged};
+ghost use Rattle.listing.specs.Listing.{node_in, from_head_of, waiters_by, waiters_of};
+ghost use Rattle.listing.specs.Way.{Stood, CannotStand};
 
-use state::{Machine, Node, Refusal, THREADS, Verdict, good_count};
+use arrayvec::ArrayVec;
+use state::{Machine, Node, Refusal, THREADS, good_count};
 use word::NodeNumber;
 
-// nodes[..length] are the waiters, newest first, and the others none. A refused listing has no nodes.
-#[derive(Clone, Copy)]
-pub struct Waiters {
-    pub nodes: [NodeNumber; THREADS],
-    pub length: usize,
-    pub verdict: Verdict,
-}
+// The waiters, newest first.
+pub type Waiters = ArrayVec<NodeNumber, THREADS>;
 
-// What following next comes to: the tail that is set in a node, or a link out of range or past the last visit.
-#[derive(Clone, Copy)]
-enum Found {
-    Tail(NodeNumber),
-    Refused,
-}
-
-// No waiters.
-fn empty(verdict: Verdict) -> Waiters
-    ensures { result ≡ empty_of verdict }
+// The node of a number, if it is one of the machine's.
+pub(crate) fn node_at(m: Machine, n: NodeNumber) -> Option<Node>
+    ensures { m.count ≤ thread_limit → result ≡ node_in m n }
 {
-    Waiters {
-        nodes: [NodeNumber::NONE; THREADS],
-        length: 0,
-        verdict: verdict,
-    }
+    let k = n.slot(m.count)?;
+    m.nodes.get(k).copied()
 }
 
-// Is it a node of a machine of so many threads?
-fn within(count: u8, n: NodeNumber) -> bool
-    ensures { result ≡ within count n }
-{
-    if n.0 < 1 {
-        return false;
-    }
-    n.0 <= count as u64
-}
-
-// The node of a number that is within.
-pub(crate) fn node_by(m: Machine, n: NodeNumber) -> Node
-    requires { (m.count ≤ thread_limit) × (within m.count n ≡ true) }
-    ensures { result ≡ node_by m n }
-{
-    let k = (n.0 - 1) as usize;
-    m.nodes[k]
-}
-
-// Goes on by next from `from`, which is listed already, until it stands on the tail.
-fn to_tail(
-    m: Machine,
-    tail: NodeNumber,
-    from: NodeNumber,
-    stood: [NodeNumber; THREADS],
-    visits: usize,
-) -> Waiters
-    requires { Way m stood visits × (within m.count from ≡ true) }
-    ensures { result ≡ joined stood visits (to_tail (m.count - visits) m tail from) }
-{
-    let count = m.count as usize;
-    let mut at = from;
-    let mut nodes = stood;
-    let mut length = visits;
-    while at.0 != tail.0 {
-        at = node_by(m, at).next.to_node();
-        if count <= length {
-            return empty(Verdict::Refused(Refusal::Damaged));
-        }
-        if !within(m.count, at) {
-            return empty(Verdict::Refused(Refusal::Damaged));
-        }
-        nodes[length] = at;
-        length = length + 1;
-    }
-    Waiters {
-        nodes: nodes,
-        length: length,
-        verdict: Verdict::Fine,
-    }
-}
-
-// Follows next from a node to one whose tail is set, and goes on from there.
-fn follow(m: Machine, head: NodeNumber) -> Waiters
+// Stands on a node, and lists it: refused out of range, and where there are as many visits as the count already.
+fn stand(m: Machine, at: NodeNumber, waiters: &mut Waiters) -> Result<Node, Refusal>
     requires { m.count ≤ thread_limit }
-    ensures { result ≡ waiters_by (followed_of m head) }
+    ensures ok { IfOk result (λ n. Stood m at waiters.old.items waiters.new.items n) }
+    ensures err { IfErr result (λ r. (r ≡ Damaged) × CannotStand m at waiters.old.items) }
 {
-    let count = m.count as usize;
-    let mut at = head;
-    let mut stood = [NodeNumber::NONE; THREADS];
-    let mut visits: usize = 0;
-    let found = loop {
-        if count <= visits {
-            break Found::Refused;
-        }
-        if !within(m.count, at) {
-            break Found::Refused;
-        }
-        stood[visits] = at;
-        visits = visits + 1;
-        let n = node_by(m, at);
-        let tail = n.tail;
-        if !tail.is_none() {
-            break Found::Tail(tail);
-        }
-        at = n.next.to_node();
-    };
-    match found {
-        Found::Tail(tail) => to_tail(m, tail, at, stood, visits),
-        Found::Refused => empty(Verdict::Refused(Refusal::Damaged)),
+    let node = node_at(m, at).ok_or(Refusal::Damaged)?;
+    if m.count as usize <= waiters.len() {
+        return Err(Refusal::Damaged);
     }
+    waiters.push(at);
+    Ok(node)
 }
 
 // The waiters, newest first: none if unqueued; refused on a bad thread count, which is tested first, on a node out of
 // range, and on more visits than the count.
-pub fn listing(m: Machine) -> Waiters
+pub fn listing(m: Machine) -> Result<Waiters, Refusal>
     ensures { result ≡ waiters_of m }
 {
-    if good_count(m.count) {
-        if m.word.queued() {
-            return follow(m, m.word.to_node());
-        }
-        return empty(Verdict::Fine);
+    if good_count(m.count) && !m.word.queued() {
+        return Ok(Waiters::new());
     }
-    empty(Verdict::Refused(Refusal::Damaged))
+    from_head(m, m.word.to_node())
 }
 
 // The same from any node, as a queue that was taken off the word is read.
-pub fn from_head(m: Machine, head: NodeNumber) -> Waiters
+pub fn from_head(m: Machine, head: NodeNumber) -> Result<Waiters, Refusal>
     ensures { result ≡ waiters_by (from_head_of m head) }
 {
-    if good_count(m.count) {
-        return follow(m, head);
+    if !good_count(m.count) {
+        return Err(Refusal::Damaged);
     }
-    empty(Verdict::Refused(Refusal::Damaged))
+    let mut waiters = Waiters::new();
+    let mut at = head;
+    let mut node = stand(m, at, &mut waiters)?;
+    let tail = loop {
+        if !node.tail.is_none() {
+            break node.tail;
+        }
+        at = node.next.to_node();
+        node = stand(m, at, &mut waiters)?;
+    };
+    while at != tail {
+        at = node.next.to_node();
+        node = stand(m, at, &mut waiters)?;
+    }
+    Ok(waiters)
 }

@@ -1,11 +1,11 @@
 -- One step at a place, by the rule of that place.
 -- Assumes nothing.
+use Rattle.std.specs.Prelude.{Err}
+use Rattle.state.specs.View.{Stepped}
 use Rattle.state.specs.declared.answer.Refusal.TheVariants.{NotInCall}
 use Rattle.state.specs.declared.place.Place.{Place}
 use Rattle.state.specs.declared.place.Place.TheVariants as At
 use Rattle.state.specs.declared.view.View.{View}
-use Rattle.state.specs.declared.view.Stepped.{Stepped}
-use Rattle.state.specs.declared.view.Stepped.TheVariants.{Refused}
 use Rattle.walk.specs.FindTail.{walk_tail_of, walk_next_of, walk_prev_of}
 use Rattle.walk.specs.CompleteAll.{wake_prev_of, wake_store_of}
 use Rattle.acquire.specs.TryRead.{try_read_load_of, try_read_cas_of}
@@ -21,7 +21,7 @@ use Rattle.release.specs.UnlockContended.{release_cas_of}
 use Rattle.release.specs.Downgrade.{downgrade_cas_of, downgrade_slow_cas_of}
 
 unfoldable pub advance_of : View → Place → Stepped
-advance_of v At.Idle = Refused NotInCall
+advance_of v At.Idle = Err NotInCall
 advance_of v (At.TryReadLoad blocking) = try_read_load_of v blocking
 advance_of v (At.TryReadCas blocking seen) = try_read_cas_of v blocking seen
 advance_of v (At.TryWriteOr blocking) = try_write_or_of v blocking

@@ -1,13 +1,12 @@
 -- Beginning a call: refusals 3 and 4, and the call's first place. Beginning touches nothing shared.
 -- Assumes nothing.
-use Rattle.std.specs.Prelude.{ℕ, Bool, true, false, ltb, eqb}
+use Rattle.std.specs.Prelude.{ℕ, Bool, true, false, ltb, eqb, None}
 use Rattle.word.specs.Base.{pick}
-use Rattle.word.specs.declared.number.Owner.TheVariants.{Nobody}
+use Rattle.state.specs.Answer.{accepted_with}
 use Rattle.state.specs.Holding.{reads_of, writes_of}
 use Rattle.state.specs.Machine.{thread_at, refused_of}
 use Rattle.state.specs.declared.answer.Answer.TheVariants.{Begun}
 use Rattle.state.specs.declared.answer.Refusal.TheVariants.{InsideCall, WrongHolding}
-use Rattle.state.specs.declared.answer.Reply.TheVariants.{Accepted}
 use Rattle.state.specs.declared.holding.Holding.{Holding}
 use Rattle.state.specs.declared.machine.Machine.{Machine}
 use Rattle.state.specs.declared.machine.Thread.{Thread}
@@ -71,7 +70,7 @@ abbrev pub began_of : Machine → ℕ → Call → Outcome
 began_of m i call =
     record {
       machine = with_thread m i (placed_of (thread_at m i) (first_place call));
-      reply = Accepted Begun Nobody;
+      reply = accepted_with Begun None;
     }
 
 -- 3 inside a call, then 4

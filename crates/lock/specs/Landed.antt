@@ -1,19 +1,16 @@
 -- A step's change stored in the machine: word, one node, the thread's record, then the token of the thread woken.
 -- Assumes nothing.
-use Rattle.std.specs.Prelude.{ℕ, true, ltb, set}
+use Rattle.std.specs.Prelude.{ℕ, true, ltb, set, Err, Ok, Option, Some, None}
 use Rattle.word.specs.Base.{pick}
 use Rattle.word.specs.declared.number.ThreadNumber.{ThreadNumber}
-use Rattle.word.specs.declared.number.Owner.{Owner}
-use Rattle.word.specs.declared.number.Owner.TheVariants.{Nobody, Thread as Somebody}
+use Rattle.state.specs.View.{Stepped}
+use Rattle.state.specs.Answer.{accepted_with}
 use Rattle.state.specs.Machine.{thread_limit, thread_at, refused_of}
-use Rattle.state.specs.declared.answer.Reply.TheVariants.{Accepted}
 use Rattle.state.specs.declared.machine.Machine.{Machine}
 use Rattle.state.specs.declared.machine.Thread.{Thread}
 use Rattle.state.specs.declared.machine.Outcome.{Outcome}
 use Rattle.lock.specs.Record.{with_thread}
 use Rattle.state.specs.declared.view.Change.{Change}
-use Rattle.state.specs.declared.view.Stepped.{Stepped}
-use Rattle.state.specs.declared.view.Stepped.TheVariants.{To, Refused}
 
 abbrev pub tokened_of : Thread → Thread
 tokened_of t = record { place = t.place; token = true; holding = t.holding }
@@ -25,9 +22,9 @@ token_set m t =
     (with_thread m t.0 (tokened_of (thread_at m t.0)))
     m
 
-abbrev pub woken_of : Machine → Owner → Machine
-woken_of m Nobody = m
-woken_of m (Somebody t) = token_set m t
+abbrev pub woken_of : Machine → Option ThreadNumber → Machine
+woken_of m None = m
+woken_of m (Some t) = token_set m t
 
 abbrev pub stored_of : Machine → ℕ → ℕ → Change → Machine
 stored_of m i k c =
@@ -40,8 +37,8 @@ stored_of m i k c =
 
 abbrev pub applied_of : Machine → ℕ → ℕ → Change → Outcome
 applied_of m i k c =
-    record { machine = woken_of (stored_of m i k c) c.woken; reply = Accepted c.answer c.woken }
+    record { machine = woken_of (stored_of m i k c) c.woken; reply = accepted_with c.answer c.woken }
 
 abbrev pub landed_of : Machine → ℕ → ℕ → Stepped → Outcome
-landed_of m i k (To c) = applied_of m i k c
-landed_of m i k (Refused r) = refused_of m r
+landed_of m i k (Ok c) = applied_of m i k c
+landed_of m i k (Err r) = refused_of m r

@@ -1,24 +1,23 @@
 -- Laws of the numbers that an event goes by: where a slot lies, what a good count says.
 -- Assumes nothing.
-use Rattle.std.specs.Prelude.{ℕ, ◌+◌, ◌-◌, ◌≤◌, ◌<◌, true, false, ◌≡◌, T, ltb, leb}
+use Rattle.std.specs.Prelude.{ℕ, ◌+◌, ◌-◌, ◌≤◌, ◌<◌, true, false, ◌≡◌, T, ltb, leb, Some, None}
 use Rattle.std.proofs.Common.{sym, subst, arith, ltb-false, leb-true}
 use Rattle.word.specs.Cases.{pick_second}
 use Rattle.word.specs.Base.{pick}
 use Rattle.word.specs.Number.{slot_of}
 use Rattle.word.specs.declared.number.NodeNumber.{NodeNumber}
-use Rattle.word.specs.declared.number.Slot.TheVariants.{Outside, At}
 use Rattle.state.specs.Machine.{thread_limit, good_count}
 
 -- no slot is both outside and somewhere
-pub outside_not_at : (k : ℕ) → Outside ≡ At k → ⊥
-outside_not_at k e = let z : ◌≡◌ {A = ℕ} 0 1 = cc in omega arith
+pub outside_not_at : (k : ℕ) → None ≡ Some k → ⊥
+outside_not_at k e = cc
 
 -- a node that has a slot lies in 1..count, at its number less one
-pub slot_at : (n : NodeNumber) (count k : ℕ) → slot_of n count ≡ At k → (n.0 ≡ k + 1) × (k < count)
+pub slot_at : (n : NodeNumber) (count k : ℕ) → slot_of n count ≡ Some k → (n.0 ≡ k + 1) × (k < count)
 slot_at n count k e =
     let low =
-    pick_second (ltb n.0 1) Outside (pick (ltb count n.0) Outside (At (n.0 - 1))) (At k) (outside_not_at k) e in
-    let high = pick_second (ltb count n.0) Outside (At (n.0 - 1)) (At k) (outside_not_at k) low.1 in
+    pick_second (ltb n.0 1) None (pick (ltb count n.0) None (Some (n.0 - 1))) (Some k) (outside_not_at k) e in
+    let high = pick_second (ltb count n.0) None (Some (n.0 - 1)) (Some k) (outside_not_at k) low.1 in
     let same : n.0 - 1 ≡ k = cc high.1 in (
       omega (arith, ltb-false n.0 1 low.0),
       omega (arith, ltb-false n.0 1 low.0, ltb-false count n.0 high.0),

@@ -5,12 +5,10 @@
 --     view_in                                   what a step may see of it
 -- What is decided by it stands in Decide.antt, and that an event is decided so in EventDecides.antt.
 -- Assumes nothing.
-use Rattle.std.specs.Prelude.{ℕ, Bool, ltb}
+use Rattle.std.specs.Prelude.{ℕ, Bool, ltb, Option, Some, None}
 use Rattle.word.specs.Base.{pick}
 use Rattle.word.specs.Number.{slot_of}
 use Rattle.word.specs.declared.flags.Word.{Word}
-use Rattle.word.specs.declared.number.Slot.{Slot}
-use Rattle.word.specs.declared.number.Slot.TheVariants.{Outside, At}
 use Rattle.word.specs.declared.number.ThreadNumber.{ThreadNumber}
 use Rattle.state.specs.Access.{access_of, touched_of}
 use Rattle.state.specs.Machine.{thread_limit, thread_at, node_at}
@@ -29,23 +27,23 @@ use Rattle.lock.specs.declared.look.Look.{Look}
 abbrev pub bounded_of : ℕ → ℕ
 bounded_of i = pick (ltb i thread_limit) i 0
 
-abbrev pub slot_index : Slot → ℕ
-slot_index Outside = 0
-slot_index (At k) = bounded_of k
+abbrev pub slot_index : Option ℕ → ℕ
+slot_index None = 0
+slot_index (Some k) = bounded_of k
 
 -- the thread's record
 abbrev pub thread_index : ThreadNumber → ℕ
 thread_index t = bounded_of t.0
 
 -- the node that the access of a thread at a place lies in; at the word or the token, the thread's own
-abbrev pub touched_slot : ℕ → ThreadNumber → Place → Slot
+abbrev pub touched_slot : ℕ → ThreadNumber → Place → Option ℕ
 touched_slot count me p = slot_of (touched_of (access_of me p) me) count
 
 unfoldable pub touched_index : ℕ → ThreadNumber → Thread → ℕ
 touched_index count me t = slot_index (touched_slot count me t.place)
 
 -- the tail that a walk found
-abbrev pub tail_slot : ℕ → Thread → Slot
+abbrev pub tail_slot : ℕ → Thread → Option ℕ
 tail_slot count t = slot_of (marked_of t.place) count
 
 unfoldable pub tail_index : ℕ → Thread → ℕ
@@ -53,9 +51,9 @@ tail_index count t = slot_index (tail_slot count t)
 
 -- ── what was read ──
 
-abbrev pub mark_in : Slot → Bool → Mark
-mark_in Outside writer = Missing
-mark_in (At _) writer = pick writer Writer Reader
+abbrev pub mark_in : Option ℕ → Bool → Mark
+mark_in None writer = Missing
+mark_in (Some _) writer = pick writer Writer Reader
 
 unfoldable pub look_from : ℕ → Word → ThreadNumber → Thread → Node → Node → Look
 look_from count w me t n tail =

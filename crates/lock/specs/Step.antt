@@ -1,20 +1,17 @@
 -- A step, code 16, or a step that fails for no cause, code 17: refusals 5, 6, 7, then 8, then the rule of the place.
 -- Assumes nothing.
-use Rattle.std.specs.Prelude.{ℕ, Bool}
+use Rattle.std.specs.Prelude.{ℕ, Bool, Err, Ok, Option, Some, None}
 use Rattle.word.specs.Base.{pick}
 use Rattle.word.specs.Number.{none, slot_of}
 use Rattle.word.specs.declared.number.ThreadNumber.{ThreadNumber}
 use Rattle.word.specs.declared.number.NodeNumber.{NodeNumber}
-use Rattle.word.specs.declared.number.Slot.{Slot}
-use Rattle.word.specs.declared.number.Slot.TheVariants.{Outside, At}
+use Rattle.state.specs.Answer.{Verdict}
 use Rattle.state.specs.Access.{access_of, touched_of}
 use Rattle.state.specs.Machine.{thread_at, node_at, refused_of}
 use Rattle.state.specs.declared.access.Kind.{Kind}
 use Rattle.state.specs.declared.access.Kind.TheVariants.{Nothing, Load, Store, WeakCompare, StrongCompare, FetchOr}
 use Rattle.state.specs.declared.access.Kind.TheVariants.{Subtract as Subtracting, Complete, Park as Parking}
 use Rattle.state.specs.declared.answer.Refusal.TheVariants.{NotInCall, NoToken, CannotFail, Damaged}
-use Rattle.state.specs.declared.answer.Verdict.{Verdict}
-use Rattle.state.specs.declared.answer.Verdict.TheVariants.{Fine, Refused}
 use Rattle.state.specs.declared.machine.Machine.{Machine}
 use Rattle.state.specs.declared.machine.Outcome.{Outcome}
 use Rattle.state.specs.declared.place.Place.{Place}
@@ -27,17 +24,17 @@ use Rattle.lock.specs.Landed.{landed_of}
 
 -- 7: code 17 at an access that is neither a weak compare nor park
 abbrev pub failing_of : Bool → Verdict
-failing_of fails = pick fails (Refused CannotFail) Fine
+failing_of fails = pick fails (Err CannotFail) (Ok tt)
 
 -- 6: code 16 at park without a token
 abbrev pub parking_of : Bool → Bool → Verdict
-parking_of token fails = pick fails Fine (pick token Fine (Refused NoToken))
+parking_of token fails = pick fails (Ok tt) (pick token (Ok tt) (Err NoToken))
 
 -- 5 on an idle thread, then 6, then 7, by the kind of access alone
 abbrev pub halted_of : Kind → Bool → Bool → Verdict
-halted_of Nothing token fails = Refused NotInCall
+halted_of Nothing token fails = Err NotInCall
 halted_of Parking token fails = parking_of token fails
-halted_of WeakCompare token fails = Fine
+halted_of WeakCompare token fails = Ok tt
 halted_of Load token fails = failing_of fails
 halted_of Store token fails = failing_of fails
 halted_of StrongCompare token fails = failing_of fails
@@ -79,9 +76,9 @@ marked_of (At.DowngradeSlowCas _) = none
 abbrev pub mark_at : Machine → ℕ → Mark
 mark_at m k = pick (node_at m k).writer Writer Reader
 
-abbrev pub mark_by : Machine → Slot → Mark
-mark_by m Outside = Missing
-mark_by m (At k) = mark_at m k
+abbrev pub mark_by : Machine → Option ℕ → Mark
+mark_by m None = Missing
+mark_by m (Some k) = mark_at m k
 
 abbrev pub mark_of : Machine → NodeNumber → Mark
 mark_of m tail = mark_by m (slot_of tail m.count)
@@ -104,13 +101,13 @@ abbrev pub reached_at : Machine → ThreadNumber → ℕ → Bool → Place → 
 reached_at m me k fails p = landed_of m me.0 k (advance_of (view_at m me k fails p) p)
 
 -- 8: the access would touch a node outside 1..count
-abbrev pub touching_by : Machine → ThreadNumber → Bool → Place → Slot → Outcome
-touching_by m me fails p Outside = refused_of m Damaged
-touching_by m me fails p (At k) = reached_at m me k fails p
+abbrev pub touching_by : Machine → ThreadNumber → Bool → Place → Option ℕ → Outcome
+touching_by m me fails p None = refused_of m Damaged
+touching_by m me fails p (Some k) = reached_at m me k fails p
 
 abbrev pub step_by : Machine → ThreadNumber → Bool → Place → Verdict → Outcome
-step_by m me fails p (Refused r) = refused_of m r
-step_by m me fails p Fine = touching_by m me fails p (slot_of (touched_of (access_of me p) me) m.count)
+step_by m me fails p (Err r) = refused_of m r
+step_by m me fails p (Ok _) = touching_by m me fails p (slot_of (touched_of (access_of me p) me) m.count)
 
 -- a step of a thread that stands at place p
 abbrev pub step_at : Machine → ThreadNumber → Bool → Place → Outcome

@@ -9,7 +9,7 @@ pub(crate) fn advance(v: View, place: Place) -> Stepped
     ensures { result ≡ advance_of v place }
 {
     match place {
-        Place::Idle => Stepped::Refused(Refusal::NotInCall),
+        Place::Idle => Err(Refusal::NotInCall),
         Place::TryReadLoad { blocking } => acquire::try_read_load(v, blocking),
         Place::TryReadCas { blocking, seen } => acquire::try_read_cas(v, blocking, seen),
         Place::TryWriteOr { blocking } => acquire::try_write_or(v, blocking),

@@ -6,7 +6,7 @@ ghost use Rattle.lock.specs.Decide.{begin_verdict, begins_in};
 
 use crate::code::Call;
 use crate::look::Look;
-use state::{Access, Answer, Holding, Kind, Next, Place, Refusal, Stepped, Thread, Verdict};
+use state::{Access, Answer, Holding, Kind, Next, Place, Refusal, Stepped, Thread};
 use word::ThreadNumber;
 
 fn first_place(call: Call) -> Place
@@ -26,10 +26,7 @@ fn first_place(call: Call) -> Place
 fn holds_nothing(holding: Holding) -> bool
     ensures { result ≡ holds_nothing holding }
 {
-    if holding.reads() == 0 {
-        return holding.writes() == 0;
-    }
-    false
+    holding.reads() == 0 && holding.writes() == 0
 }
 
 // The four attempts want nothing held, read_unlock a read, write_unlock and downgrade the write.
@@ -37,59 +34,39 @@ fn may_begin(call: Call, holding: Holding) -> bool
     ensures { result ≡ may_begin call holding }
 {
     match call {
-        Call::Read => holds_nothing(holding),
-        Call::Write => holds_nothing(holding),
-        Call::TryRead => holds_nothing(holding),
-        Call::TryWrite => holds_nothing(holding),
+        Call::Read | Call::Write | Call::TryRead | Call::TryWrite => holds_nothing(holding),
         Call::ReadUnlock => 0 < holding.reads(),
-        Call::WriteUnlock => 0 < holding.writes(),
-        Call::Downgrade => 0 < holding.writes(),
+        Call::WriteUnlock | Call::Downgrade => 0 < holding.writes(),
     }
 }
 
 fn is_idle(place: Place) -> bool
     ensures { result ≡ is_idle place }
 {
-    let access = Access::of(ThreadNumber(0), place);
-    let kind = access.kind;
-    match kind {
-        Kind::Nothing => true,
-        Kind::Load => false,
-        Kind::Store => false,
-        Kind::WeakCompare => false,
-        Kind::StrongCompare => false,
-        Kind::FetchOr => false,
-        Kind::Subtract => false,
-        Kind::Complete => false,
-        Kind::Park => false,
-    }
+    Access::of(ThreadNumber(0), place).kind == Kind::Nothing
 }
 
 // 3 inside a call, then 4.
 #[tactic(auto, unfolding(crate::specs::Decide::begin_verdict))]
-fn begin_verdict(t: Thread, call: Call) -> Verdict
+fn begin_verdict(t: Thread, call: Call) -> Result<(), Refusal>
     ensures { result ≡ begin_verdict t call }
 {
-    let place = t.place;
-    let holding = t.holding;
-    if !is_idle(place) {
-        return Verdict::Refused(Refusal::InsideCall);
+    if !is_idle(t.place) {
+        return Err(Refusal::InsideCall);
     }
-    if !may_begin(call, holding) {
-        return Verdict::Refused(Refusal::WrongHolding);
+    if !may_begin(call, t.holding) {
+        return Err(Refusal::WrongHolding);
     }
-    Verdict::Fine
+    Ok(())
 }
 
 #[tactic(auto, unfolding(crate::specs::Decide::begins_in))]
 pub(crate) fn begins(look: Look, call: Call) -> Stepped
     ensures { result ≡ begins_in look call }
 {
-    match begin_verdict(look.thread, call) {
-        Verdict::Refused(r) => Stepped::Refused(r),
-        Verdict::Fine => look.view(false).stays(Next {
-            place: first_place(call),
-            answer: Answer::Begun,
-        }),
-    }
+    begin_verdict(look.thread, call)?;
+    look.view(false).stays(Next {
+        place: first_place(call),
+        answer: Answer::Begun,
+    })
 }

@@ -10,7 +10,7 @@ ghost use Rattle.lock.specs.Look.{bounded_of, slot_index, thread_index, touched_
 ghost use Rattle.lock.specs.Look.{tail_slot, tail_index, mark_in, look_from, look_of, view_in};
 
 use state::{Access, Machine, Mark, Node, Place, THREADS, Thread, View};
-use word::{NodeNumber, Slot, ThreadNumber, Word};
+use word::{NodeNumber, ThreadNumber, Word};
 
 #[derive(Clone, Copy)]
 pub struct Look {
@@ -22,45 +22,51 @@ pub struct Look {
     pub mark: Mark,
 }
 
-fn bounded(i: usize) -> usize
-    ensures { (result ≡ bounded_of i) × (result < thread_limit) }
-{
-    if i < THREADS {
-        return i;
-    }
-    0
+// Where a record or a node lies; a machine's arrays have it.
+#[derive(Clone, Copy)]
+pub(crate) struct Index {
+    pub(crate) at: usize,
+    ghost below_limit: { at < thread_limit },
 }
 
-fn slot_index(slot: Slot) -> usize
-    ensures { (result ≡ slot_index slot) × (result < thread_limit) }
+impl Index {
+    pub(crate) fn bounded(i: usize) -> Index
+        ensures { result.at ≡ bounded_of i }
+    {
+        Index {
+            at: if i < THREADS { i } else { 0 },
+        }
+    }
+}
+
+fn slot_index(slot: Option<usize>) -> Index
+    ensures { result.at ≡ slot_index slot }
 {
     match slot {
-        Slot::Outside => 0,
-        Slot::At(k) => bounded(k),
+        None => Index::bounded(0),
+        Some(k) => Index::bounded(k),
     }
 }
 
 // Where the thread's record lies.
-pub(crate) fn thread_index(t: ThreadNumber) -> usize
-    ensures { (result ≡ thread_index t) × (result < thread_limit) }
+pub(crate) fn thread_index(t: ThreadNumber) -> Index
+    ensures { result.at ≡ thread_index t }
 {
-    bounded(t.0 as usize)
+    Index::bounded(t.0 as usize)
 }
 
-fn touched_slot(count: u8, me: ThreadNumber, place: Place) -> Slot
+fn touched_slot(count: u8, me: ThreadNumber, place: Place) -> Option<usize>
     ensures { result ≡ touched_slot count me place }
 {
-    let access = Access::of(me, place);
-    access.touched(me).slot(count)
+    Access::of(me, place).touched(me).slot(count)
 }
 
 // Where the node lies that the thread's access touches; at the word or the token, the thread's own.
 #[tactic(auto, unfolding(crate::specs::Look::touched_index))]
-pub(crate) fn touched_index(count: u8, me: ThreadNumber, t: Thread) -> usize
-    ensures { (result ≡ touched_index count me t) × (result < thread_limit) }
+pub(crate) fn touched_index(count: u8, me: ThreadNumber, t: Thread) -> Index
+    ensures { result.at ≡ touched_index count me t }
 {
-    let place = t.place;
-    slot_index(touched_slot(count, me, place))
+    slot_index(touched_slot(count, me, t.place))
 }
 
 // The node whose writer mark the local code of a step reads: the tail that a walk found.
@@ -69,39 +75,32 @@ fn marked(place: Place) -> NodeNumber
     ensures { result ≡ marked_of place }
 {
     match place {
-        Place::WalkHead {
-            walk: _,
-            seen: _,
-            tail,
-        } => tail,
-        _ => NodeNumber(0),
+        Place::WalkHead { tail, .. } => tail,
+        _ => NodeNumber::NONE,
     }
 }
 
-fn tail_slot(count: u8, t: Thread) -> Slot
+fn tail_slot(count: u8, t: Thread) -> Option<usize>
     ensures { result ≡ tail_slot count t }
 {
-    let place = t.place;
-    marked(place).slot(count)
+    marked(t.place).slot(count)
 }
 
 #[tactic(auto, unfolding(crate::specs::Look::tail_index))]
-fn tail_index(count: u8, t: Thread) -> usize
-    ensures { (result ≡ tail_index count t) × (result < thread_limit) }
+fn tail_index(count: u8, t: Thread) -> Index
+    ensures { result.at ≡ tail_index count t }
 {
     slot_index(tail_slot(count, t))
 }
 
-fn mark_in(slot: Slot, writer: bool) -> Mark
+fn mark_in(slot: Option<usize>, writer: bool) -> Mark
     ensures { result ≡ mark_in slot writer }
 {
-    if let Slot::Outside = slot {
-        return Mark::Missing;
+    match slot {
+        None => Mark::Missing,
+        Some(_) if writer => Mark::Writer,
+        Some(_) => Mark::Reader,
     }
-    if writer {
-        return Mark::Writer;
-    }
-    Mark::Reader
 }
 
 impl Look {
@@ -111,11 +110,11 @@ impl Look {
         ensures { result ≡ look_from count word me thread node tail }
     {
         Look {
-            count: count,
-            word: word,
-            me: me,
-            thread: thread,
-            node: node,
+            count,
+            word,
+            me,
+            thread,
+            node,
             mark: mark_in(tail_slot(count, thread), tail.writer),
         }
     }
@@ -124,20 +123,14 @@ impl Look {
     pub(crate) fn view(self, fails: bool) -> View
         ensures { result ≡ view_in self fails }
     {
-        let me = self.me;
-        let word = self.word;
-        let node = self.node;
-        let mark = self.mark;
-        let t = self.thread;
-        let holding = t.holding;
         View {
-            me: me,
-            word: word,
-            node: node,
-            mark: mark,
-            token: t.token,
-            holding: holding,
-            fails: fails,
+            me: self.me,
+            word: self.word,
+            node: self.node,
+            mark: self.mark,
+            token: self.thread.token,
+            holding: self.thread.holding,
+            fails,
         }
     }
 }
@@ -146,11 +139,8 @@ impl Look {
 pub fn look_at(m: Machine, me: ThreadNumber) -> Look
     ensures { result ≡ look_of m me }
 {
-    let i = thread_index(me);
-    let t = m.threads[i];
-    let k = touched_index(m.count, me, t);
-    let j = tail_index(m.count, t);
-    let n = m.nodes[k];
-    let tail = m.nodes[j];
-    Look::from(m.count, m.word, me, t, n, tail)
+    let t = m.threads[thread_index(me).at];
+    let node = m.nodes[touched_index(m.count, me, t).at];
+    let tail = m.nodes[tail_index(m.count, t).at];
+    Look::from(m.count, m.word, me, t, node, tail)
 }

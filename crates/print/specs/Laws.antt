@@ -3,6 +3,7 @@
 use Rattle.std.specs.Prelude.{ℕ, zero, suc, ◌+◌, ◌-◌, ◌/◌, ◌%◌, ◌≤◌, ◌<◌, ◌≡◌, refl, List, [], ◌∷◌, ◌++◌, length, take}
 use Rattle.std.specs.Prelude.{get_or}
 use Rattle.std.proofs.Common.{sym, ap, ◌∙◌, suc-ne-zero, arith, lt-ltb, le-ltb, take-suc}
+use Rattle.std.proofs.lemmas.List.Sums.{fold-append}
 use Rattle.word.specs.Cases.{pick_yes, pick_no}
 use Rattle.print.specs.Text.{decimal_by}
 use Rattle.print.specs.Line.{put_of, put_all}
@@ -12,8 +13,7 @@ use Rattle.print.specs.declared.line.Line.{Line}
 
 pub put_both : (l : Line) (xs ys : List ℕ) → put_all (put_all l xs) ys ≡ put_all l (xs ++ ys)
 unfolding put_all
-put_both l [] ys = refl
-put_both l (x ∷ xs) ys = put_both (put_of l x) xs ys
+put_both l xs ys = sym (fold-append put_of l xs ys)
 
 pub put_none : (l : Line) → put_all l [] ≡ l
 unfolding put_all
@@ -36,6 +36,9 @@ put_next l s i h =
     let e : suc i ≡ i + 1 = omega arith in
     put_end l (take i s) (get_or s i 0) ∙ ap (put_all l) (sym (take-suc s i 0 h) ∙ ap (λ (k : ℕ). take k s) e)
 
+-- what a line's text is made of: for the functions that put one text after another
+pub ruleset lines = (put_both, put_none)
+
 -- ── the digits of a number ──
 
 pub digits_none : (places n : ℕ) → places ≡ 0 → [] ≡ decimal_by places n
@@ -57,3 +60,6 @@ digits_more zero n h k = absurd (omega (arith, h))
 digits_more (suc places) n h k =
     let e : suc places - 1 ≡ places = omega arith in
     pick_no _ _ _ _ (le-ltb n 10 k) (ap (λ (p : ℕ). decimal_by p (n / 10) ++ ((48 + n % 10) ∷ [])) e)
+
+-- a line to which a number's digits are put: none, one, or those before and one more
+pub ruleset digits = (put_none, put_one, put_end, digits_none, digits_one, digits_more)

@@ -1,5 +1,5 @@
 -- A line of text: bytes put one after the other, and what does not fit left out. Assumes nothing.
-use Rattle.std.specs.Prelude.{ℕ, ◌+◌, List, [], ◌∷◌, ltb, set, take, replicate}
+use Rattle.std.specs.Prelude.{ℕ, ◌+◌, List, ltb, set, take, replicate, fold}
 use Rattle.word.specs.Base.{pick}
 use Rattle.print.specs.declared.line.Line.{Line}
 
@@ -13,8 +13,7 @@ abbrev pub put_of : Line → ℕ → Line
 put_of l b = pick (ltb l.length line_width) (record { bytes = set l.bytes l.length b; length = l.length + 1 }) l
 
 unfoldable pub put_all : Line → List ℕ → Line
-put_all l [] = l
-put_all l (b ∷ bs) = put_all (put_of l b) bs
+put_all l bs = fold put_of l bs
 
 -- the bytes of a line that are text
 abbrev pub shown : Line → List ℕ

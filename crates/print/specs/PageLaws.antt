@@ -1,13 +1,15 @@
 -- Laws of a page.
--- In order: a copy keeps the page's length, and puts the bytes where they go; what fits has room; a line laid keeps the
--- page's length; a text and its end, laid where any line fits, stand there whole.
+-- In order: a copy is std's; it keeps the page's length, and puts the bytes where they go; what fits has room; a line
+-- laid keeps the page's length; a text and its end, laid where any line fits, stand there whole.
 -- Not here: that every line fits (Shown.antt, and the trace's in crate traced).
 -- Assumes nothing.
-use Rattle.std.specs.Prelude.{ℕ, zero, suc, ◌+◌, ◌-◌, ◌≤◌, ◌<◌, true, false, ◌≡◌, refl, List, [], ◌∷◌, ◌++◌, leb}
+use Rattle.std.specs.Prelude.{ℕ, zero, suc, ◌+◌, ◌-◌, ◌≤◌, ◌<◌, true, false, ◌≡◌, refl, List, ◌++◌, leb}
 use Rattle.std.specs.Prelude.{length, take, get_or, set}
 use Rattle.std.proofs.lemmas.Bool.{false≢true}
-use Rattle.std.proofs.Common.{sym, ap, ◌∙◌, append_assoc, append-nil, arith, leb-true, le-leb, length-set}
-use Rattle.std.proofs.Common.{length-append, take-suc, take-suc-set}
+use Rattle.std.proofs.Common.{sym, ap, ◌∙◌, arith, leb-true, le-leb, length-set}
+use Rattle.std.proofs.Common.{length-append}
+use Rattle.std.proofs.Math.Seq.{paste, paste-zero, paste-suc}
+use Rattle.std.proofs.lemmas.List.Edits.{take-paste}
 use Rattle.word.specs.Base.{pick}
 use Rattle.word.specs.Cases.{pick_yes, pick_both, pick_first}
 use Rattle.print.specs.Text.{ascii}
@@ -29,6 +31,16 @@ copy_more page at bytes n =
     let e : suc n ≡ n + 1 = omega arith in
     ap (copy_of page at bytes) e
 
+-- a copy that fits, as std says it
+pub copy_pastes :
+    (page : List ℕ) (at : ℕ) (bytes : List ℕ) (n : ℕ) → at + n ≤ length page → n ≤ length bytes
+    → paste page at bytes n ≡ copy_of page at bytes n
+unfolding copy_of
+copy_pastes page at bytes zero h k = sym (paste-zero page at bytes)
+copy_pastes page at bytes (suc n) h k =
+    sym (paste-suc page at bytes n 0 (omega arith) (omega arith))
+    ∙ ap (λ (p : List ℕ). set p (at + n) (get_or bytes n 0)) (copy_pastes page at bytes n (omega arith) (omega arith))
+
 pub copy_length : (page : List ℕ) (at : ℕ) (bytes : List ℕ) (n : ℕ) → length (copy_of page at bytes n) ≡ length page
 unfolding copy_of
 copy_length page at bytes zero = refl
@@ -38,19 +50,9 @@ copy_length page at bytes (suc n) =
 pub copy_shows :
     (page : List ℕ) (at : ℕ) (bytes : List ℕ) (n : ℕ) → at + n ≤ length page → n ≤ length bytes
     → take (at + n) (copy_of page at bytes n) ≡ take at page ++ take n bytes
-unfolding copy_of
-copy_shows page at bytes zero h k =
-    let e : at + 0 ≡ at = omega arith in
-    ap (λ (i : ℕ). take i page) e ∙ sym (append-nil (take at page))
-copy_shows page at bytes (suc n) h k =
-    let e : at + suc n ≡ suc (at + n) = omega arith in
-    let there : at + n < length (copy_of page at bytes n) = omega (arith, copy_length page at bytes n) in
-    let b = get_or bytes n 0 in
-    ap (λ (i : ℕ). take i (set (copy_of page at bytes n) (at + n) b)) e
-    ∙ take-suc-set (copy_of page at bytes n) (at + n) b there
-    ∙ ap (λ (l : List ℕ). l ++ (b ∷ [])) (copy_shows page at bytes n (omega arith) (omega arith))
-    ∙ append_assoc (take at page) (take n bytes) (b ∷ [])
-    ∙ ap (λ (l : List ℕ). take at page ++ l) (sym (take-suc bytes n 0 (omega arith)))
+copy_shows page at bytes n h k =
+    ap (λ (p : List ℕ). take (at + n) p) (sym (copy_pastes page at bytes n h k))
+    ∙ take-paste page at bytes n (omega arith) k
 
 pub fits_room : (size at text : ℕ) → fits_of size at text ≡ true → (text ≤ line_width) × (at + text ≤ size)
 fits_room size at text e =

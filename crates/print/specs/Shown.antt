@@ -1,16 +1,15 @@
 -- What a line shows: the text that it is made of, where that fits; that a number's digits are its own; and that
 -- document 01's lines fit, with their ends. Assumes nothing.
 use Rattle.std.specs.Prelude.{ℕ, zero, suc, ◌+◌, ◌-◌, ◌*◌, ◌/◌, ◌%◌, ◌^◌, ◌≤◌, ◌<◌, ◌≡◌, refl, List, [], ◌∷◌, ◌++◌}
-use Rattle.std.specs.Prelude.{length, take, set}
-use Rattle.std.proofs.Common.{sym, ap, ◌∙◌, append-nil, pow-suc, arith, lt-ltb, length-set, length-append, take-suc-set}
+use Rattle.std.specs.Prelude.{length, take, set, Option, Some, None, Result, Ok, Err}
+use Rattle.std.proofs.Common.{sym, ap, ◌∙◌, append-nil, pow-suc, arith, lt-ltb, length-set, length-append}
+use Rattle.std.proofs.Common.{take-suc-set}
 use Rattle.std.proofs.Math.Decide.{dec_lt}
 use Rattle.std.proofs.Math.Nat.{pow-zero}
 use Rattle.std.proofs.Math.Seq.{append_snoc}
 use Rattle.word.specs.Cases.{pick_yes}
 use Rattle.word.specs.declared.flags.Word.{Word}
 use Rattle.word.specs.declared.number.ThreadNumber.{ThreadNumber}
-use Rattle.word.specs.declared.number.Owner.{Owner}
-use Rattle.word.specs.declared.number.Owner.TheVariants.{Nobody, Thread}
 use Rattle.state.specs.Answer.{answer_word, refusal_number}
 use Rattle.state.specs.declared.answer.Answer.{Answer}
 use Rattle.state.specs.declared.answer.Answer.TheVariants.{Begun, Went, Done, Yes, No}
@@ -144,9 +143,9 @@ answer_short Done = omega arith
 answer_short Yes = omega arith
 answer_short No = omega arith
 
-woken_short : (w : Owner) → length (woken_text w) ≤ 20
-woken_short Nobody = omega arith
-woken_short (Thread t) = digits_few 20 t.0
+woken_short : (w : Option ThreadNumber) → length (woken_text w) ≤ 20
+woken_short None = omega arith
+woken_short (Some t) = digits_few 20 t.0
 
 -- a digit is one
 pub digit_one : (n : ℕ) → n < 10 → length (decimal n) ≡ 1
@@ -156,7 +155,7 @@ digit_one n h = ap length (sym (digits_one 20 n (omega arith) h))
 spaced : (xs ys : List ℕ) (a b : ℕ) → length xs ≤ a → length ys ≤ b → length (xs ++ ascii " " ++ ys) ≤ a + 1 + b
 spaced xs ys a b h k = omega (arith, h, k, length-append (xs ++ ascii " ") ys, length-append xs (ascii " "))
 
-module _ (at : ℕ) (thread : ThreadNumber) (answer : Answer) (woken : Owner) (word : Word) where
+module _ (at : ℕ) (thread : ThreadNumber) (answer : Answer) (woken : Option ThreadNumber) (word : Word) where
   pub event_text_short : length (event_text at thread answer woken word) ≤ 89
   event_text_short =
       let threaded = decimal at ++ ascii " " ++ decimal thread.0 in
@@ -173,7 +172,7 @@ module _ (at : ℕ) (thread : ThreadNumber) (answer : Answer) (woken : Owner) (w
 pub refused_text_short : (number : ℕ) → length (refused_text number) ≤ 28
 refused_text_short number = omega (arith, digits_few 20 number, length-append (ascii "refused ") (decimal number))
 
-pub stop_text_short : (run : ℕ) (stop : FileStop) → length (stop_text run stop) ≤ 28
-stop_text_short run Stop.Ran = omega (arith, digits_few 20 run, length-append (ascii "end ") (decimal run))
-stop_text_short run (Stop.Refused refusal) = refused_text_short (refusal_number refusal)
-stop_text_short run (Stop.File refusal) = refused_text_short (file_number refusal)
+pub stop_text_short : (run : ℕ) (stop : Result (Unit {0}) FileStop) → length (stop_text run stop) ≤ 28
+stop_text_short run (Ok ran) = omega (arith, digits_few 20 run, length-append (ascii "end ") (decimal run))
+stop_text_short run (Err (Stop.Refused refusal)) = refused_text_short (refusal_number refusal)
+stop_text_short run (Err (Stop.File refusal)) = refused_text_short (file_number refusal)

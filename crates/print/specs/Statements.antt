@@ -3,7 +3,7 @@
 -- In order: the lines of a run of events; document 01's print of a file.
 -- Not here: the proofs (Theorems.antt); the trace, with its lines for the threads (crate traced).
 -- Assumes nothing.
-use Rattle.std.specs.Prelude.{ℕ, suc, ◌+◌, ◌<◌, List, [], ◌∷◌, ◌≡◌, length, drop, get_or}
+use Rattle.std.specs.Prelude.{ℕ, suc, ◌+◌, ◌<◌, List, [], ◌∷◌, Ok, Err, ◌≡◌, length, drop, get_or}
 use Rattle.state.specs.Machine.{fresh_of}
 use Rattle.state.specs.declared.machine.Machine.{Machine}
 use Rattle.schedule.specs.File.{header_length, file_number, checked_of}
@@ -11,7 +11,7 @@ use Rattle.schedule.specs.Replay.{thread_at, replay_of}
 use Rattle.schedule.specs.Whole.{file_stop_of, file_replay_of}
 use Rattle.schedule.specs.Statements.{state_at, Accepts}
 use Rattle.schedule.specs.declared.file.FileRefusal.{FileRefusal}
-use Rattle.schedule.specs.declared.file.Checked.TheVariants as File
+use Rattle.schedule.specs.declared.file.Head.{Head}
 use Rattle.print.specs.Replayed.{refused_text}
 use Rattle.print.specs.Whole.{stop_text, EventLine, print_line}
 
@@ -36,13 +36,13 @@ Print = List ℕ → List (List ℕ)
 -- a refused file's one line
 abbrev pub RefusedAlone : Print → Type 0
 RefusedAlone print =
-    (s : List ℕ) (refusal : FileRefusal) → checked_of s ≡ File.Refused refusal
+    (s : List ℕ) (refusal : FileRefusal) → checked_of s ≡ Err refusal
     → print s ≡ refused_text (file_number refusal) ∷ []
 
 -- document 01's print: one line more than events that run, and none besides
 pub record PrintsWhole (print : Print) : Type 0 where
   pub refused : RefusedAlone print
   pub accepted :
-      (s : List ℕ) (threads events : ℕ) → checked_of s ≡ File.Accepted threads events
-      → TellsRun print_line (fresh_of threads).machine (drop header_length s) (print s)
+      (s : List ℕ) (head : Head) → checked_of s ≡ Ok head
+      → TellsRun print_line (fresh_of head.threads).machine (drop header_length s) (print s)
   pub count : (s : List ℕ) → length (print s) ≡ (file_replay_of s).run + 1

@@ -1,13 +1,11 @@
 -- Text as bytes: words in ASCII, numbers by their digits. Assumes nothing.
-use Rattle.std.specs.Prelude.{ℕ, zero, suc, ◌+◌, ◌/◌, ◌%◌, List, [], ◌∷◌, ◌++◌, ltb}
-use Prim.Native.Char.{code}
-use Prim.Native.String.{String, [] as empty, ◌∷◌ as ◌then◌}
+use Rattle.std.specs.Prelude.{ℕ, zero, suc, ◌+◌, ◌/◌, ◌%◌, List, [], ◌∷◌, ◌++◌, ltb, codes}
+use Prim.Native.String.{String}
 use Rattle.word.specs.Base.{pick}
 
 -- the bytes of a text
 abbrev pub ascii : String → List ℕ
-ascii empty = []
-ascii (c then s) = code c ∷ ascii s
+ascii = codes
 
 -- the digits of a number of at most so many places, the most significant first
 unfoldable pub decimal_by : ℕ → ℕ → List ℕ

@@ -4,20 +4,18 @@
 -- trace's are the same lines longer; a file's lines; the bytes of lines; the print.
 -- Not here: one event's line (Replayed.antt); what is said of the whole (Statements.antt); the trace (crate traced).
 -- Assumes nothing.
-use Rattle.std.specs.Prelude.{ℕ, ◌+◌, List, [], ◌∷◌, ◌++◌, drop}
+use Rattle.std.specs.Prelude.{ℕ, ◌+◌, List, [], ◌∷◌, ◌++◌, drop, Err, Ok, Option, Result}
 use Rattle.word.specs.Number.{thread}
 use Rattle.word.specs.declared.number.ThreadNumber.{ThreadNumber}
-use Rattle.word.specs.declared.number.Owner.{Owner}
+use Rattle.state.specs.Answer.{Reply}
 use Rattle.state.specs.Machine.{fresh_of}
 use Rattle.state.specs.declared.answer.Answer.{Answer}
-use Rattle.state.specs.declared.answer.Reply.{Reply}
-use Rattle.state.specs.declared.answer.Reply.TheVariants.{Accepted, Refused}
 use Rattle.state.specs.declared.machine.Machine.{Machine}
 use Rattle.lock.specs.Event.{event_of}
 use Rattle.schedule.specs.File.{header_length, checked_of}
 use Rattle.schedule.specs.Whole.{file_stop_number}
-use Rattle.schedule.specs.declared.file.Checked.{Checked}
-use Rattle.schedule.specs.declared.file.Checked.TheVariants as File
+use Rattle.schedule.specs.declared.file.FileRefusal.{FileRefusal}
+use Rattle.schedule.specs.declared.file.Head.{Head}
 use Rattle.schedule.specs.declared.whole.FileStop.{FileStop}
 use Rattle.schedule.specs.declared.whole.FileStop.TheVariants as Stop
 use Rattle.print.specs.Text.{ascii}
@@ -26,26 +24,26 @@ use Rattle.print.specs.Replayed.{event_text, end_text, refused_text}
 -- ── why a replay stopped ──
 
 -- after so many events: none was left, an event was refused, or the file was
-abbrev pub stop_text : ℕ → FileStop → List ℕ
-stop_text run Stop.Ran = end_text run
-stop_text run (Stop.Refused refusal) = refused_text (file_stop_number (Stop.Refused refusal))
-stop_text run (Stop.File refusal) = refused_text (file_stop_number (Stop.File refusal))
+abbrev pub stop_text : ℕ → Result (Unit {0}) FileStop → List ℕ
+stop_text run (Ok ran) = end_text run
+stop_text run (Err (Stop.Refused refusal)) = refused_text (file_stop_number (Err (Stop.Refused refusal)))
+stop_text run (Err (Stop.File refusal)) = refused_text (file_stop_number (Err (Stop.File refusal)))
 
 -- ── a run of events ──
 
 -- the line of an event that runs, by its number, thread, answer, the thread woken and the machine after it
 abbrev pub EventLine : Type 0
-EventLine = ℕ → ThreadNumber → Answer → Owner → Machine → List ℕ
+EventLine = ℕ → ThreadNumber → Answer → Option ThreadNumber → Machine → List ℕ
 
 -- by an event's reply: its line and those of the later ones, or the refusal and no more
 abbrev pub lines_by : EventLine → ℕ → ThreadNumber → Reply → Machine → List (List ℕ) → List (List ℕ)
-lines_by line at t (Accepted answer woken) m later = line at t answer woken m ∷ later
-lines_by line at t (Refused refusal) m later = stop_text at (Stop.Refused refusal) ∷ []
+lines_by line at t (Ok told) m later = line at t told.answer told.woken m ∷ later
+lines_by line at t (Err refusal) m later = stop_text at (Err (Stop.Refused refusal)) ∷ []
 
 -- code and thread each, from event number `at` on; an odd byte is not an event
 unfoldable pub event_lines : EventLine → ℕ → Machine → List ℕ → List (List ℕ)
-event_lines line at m [] = stop_text at Stop.Ran ∷ []
-event_lines line at m (odd ∷ []) = stop_text at Stop.Ran ∷ []
+event_lines line at m [] = stop_text at (Ok tt) ∷ []
+event_lines line at m (odd ∷ []) = stop_text at (Ok tt) ∷ []
 event_lines line at m (code ∷ t ∷ s) =
     lines_by line at
     (thread t)
@@ -55,10 +53,9 @@ event_lines line at m (code ∷ t ∷ s) =
 
 -- ── a file ──
 
-abbrev pub file_lines_by : EventLine → Checked → List ℕ → List (List ℕ)
-file_lines_by line (File.Accepted threads events) s =
-    event_lines line 0 (fresh_of threads).machine (drop header_length s)
-file_lines_by line (File.Refused refusal) s = stop_text 0 (Stop.File refusal) ∷ []
+abbrev pub file_lines_by : EventLine → Result Head FileRefusal → List ℕ → List (List ℕ)
+file_lines_by line (Ok head) s = event_lines line 0 (fresh_of head.threads).machine (drop header_length s)
+file_lines_by line (Err refusal) s = stop_text 0 (Err (Stop.File refusal)) ∷ []
 
 abbrev pub file_lines : EventLine → List ℕ → List (List ℕ)
 file_lines line s = file_lines_by line (checked_of s) s

@@ -5,19 +5,19 @@
 -- Assumes nothing.
 use Prim.Native.Nat.{ℕ, zero, suc, ◌+◌, ◌*◌, ◌/◌, ◌<◌, ◌≤◌}
 use mathlib.Core.List.{List, [], ◌∷◌, ◌++◌, append_assoc}
-use Rattle.std.specs.Prelude.{◌≡◌, drop}
+use Rattle.std.specs.Prelude.{◌≡◌, drop, Err, Ok, Option, Result}
 use Rattle.std.proofs.Math.Path.{refl, ap}
 use Rattle.std.proofs.Common.{sym, ◌∙◌, length-append, length-drop}
 use Rattle.std.proofs.Math.Decide.{dec_lt}
 use native.Mathlib.Omega.{arith}
 use Rattle.std.proofs.Math.ListN.{length, get_or, get_or-append}
+use Rattle.state.specs.Answer.{Reply, accepted_with}
+use Rattle.state.specs.Replies.{same_answer, same_woken}
 use Rattle.state.specs.declared.machine.Machine.{Machine}
 use Rattle.word.specs.Number.{thread}
-use Rattle.word.specs.declared.number.Owner.{Owner}
 use Rattle.word.specs.declared.number.ThreadNumber.{ThreadNumber}
 use Rattle.state.specs.declared.answer.Answer.{Answer}
-use Rattle.state.specs.declared.answer.Reply.{Reply}
-use Rattle.state.specs.declared.answer.Reply.TheVariants.{Accepted, Refused}
+use Rattle.state.specs.declared.answer.Refusal.{Refusal}
 use Rattle.lock.specs.Event.{event_of}
 use Rattle.schedule.specs.File.{event_width}
 use Rattle.schedule.specs.Replay.{thread_at, event_at, replay_of}
@@ -47,7 +47,7 @@ bytes_append (x ∷ xs) ys =
 
 module _ (line : EventLine) (m : Machine) where
   -- no whole event left
-  lines_short : (at : ℕ) (l : List ℕ) → length l < event_width → event_lines line at m l ≡ stop_text at Stop.Ran ∷ []
+  lines_short : (at : ℕ) (l : List ℕ) → length l < event_width → event_lines line at m l ≡ stop_text at (Ok tt) ∷ []
   unfolding event_lines
   lines_short at [] h = refl
   lines_short at (x ∷ []) h = refl
@@ -64,7 +64,7 @@ module _ (line : EventLine) (m : Machine) where
         let next = (event_at m s k).machine in
         lines_by line k (thread_at s k) reply next (event_lines line (k + 1) next (drop (event_width * (k + 1)) s))
 
-    pub lines_ended : length s / event_width ≤ k → lines_from ≡ stop_text k Stop.Ran ∷ []
+    pub lines_ended : length s / event_width ≤ k → lines_from ≡ stop_text k (Ok tt) ∷ []
     lines_ended h = lines_short k (drop (event_width * k) s) (omega (arith, length-drop (event_width * k) s))
 
     pub lines_on_lem : k < length s / event_width → lines_from ≡ lines_on (event_at m s k).reply
@@ -97,11 +97,11 @@ module _ (line : EventLine) (m : Machine) (s : List ℕ) where
   last_by_lem : (k : ℕ) → End m s k → rest k ≡ stop_text k (file_stop_of (replay_of m s).stop) ∷ []
   last_by_lem k (none_left h e) =
       lines_ended line (state_at m s k) s k (omega arith)
-      ∙ ap (λ (r : Replayed). stop_text k (file_stop_of r.stop) ∷ []) (sym e)
+      ∙ ap (λ (r : Replayed Refusal). stop_text k (file_stop_of r.stop) ∷ []) (sym e)
   last_by_lem k (refused refusal h r e) =
       lines_on_lem line (state_at m s k) s k h
       ∙ ap (lines_on line (state_at m s k) s k) r
-      ∙ ap (λ (x : Replayed). stop_text k (file_stop_of x.stop) ∷ []) (sym e)
+      ∙ ap (λ (x : Replayed Refusal). stop_text k (file_stop_of x.stop) ∷ []) (sym e)
 
   last : rest run ≡ stop_text run (file_stop_of (replay_of m s).stop) ∷ []
   last = last_by_lem run (run_is_the_end m s)
@@ -153,9 +153,9 @@ module _ (line : EventLine) (m : Machine) (s : List ℕ) where
   module _ (xs ys : List (List ℕ)) where
     same_event : (k : ℕ) → TellsEvent line m s xs k → TellsEvent line m s ys k → get_or xs k [] ≡ get_or ys k []
     same_event k a b =
-        let answers : a.accepted.answer ≡ b.accepted.answer = cc (a.accepted.is, b.accepted.is) in
-        let owners : a.accepted.woken ≡ b.accepted.woken = cc (a.accepted.is, b.accepted.is) in
-        a.told ∙ rw (answers, owners) (sym b.told)
+        let same : accepted_with a.accepted.answer a.accepted.woken ≡ accepted_with b.accepted.answer b.accepted.woken =
+        sym a.accepted.is ∙ b.accepted.is in
+        a.told ∙ rw (same_answer same, same_woken same) (sym b.told)
 
     pub tells_same : TellsRun line m s xs → TellsRun line m s ys → (k : ℕ) → k < run + 1
         → get_or xs k [] ≡ get_or ys k []
@@ -175,30 +175,33 @@ unfolding bytes_of
 one_line x more n h k =
     omega (arith, length-append (x ++ ascii "\n") (bytes_of more), length-append x (ascii "\n"))
 
-stop_line : (at : ℕ) (stop : FileStop) (n : ℕ) → length (bytes_of (stop_text at stop ∷ [])) ≤ line_width + n
+stop_line :
+    (at : ℕ) (stop : Result (Unit {0}) FileStop) (n : ℕ)
+    → length (bytes_of (stop_text at stop ∷ [])) ≤ line_width + n
 unfolding bytes_of
 stop_line at stop n = one_line (stop_text at stop) [] n (omega (arith, stop_text_short at stop)) (omega arith)
 
 -- where an event's line fits with its end
 module _
     (line : EventLine)
-    (short : (at : ℕ) (t : ThreadNumber) (a : Answer) (w : Owner) (m : Machine) → length (line at t a w m) < line_width)
+    (short : (at : ℕ) (t : ThreadNumber) (a : Answer) (w : Option ThreadNumber) (m : Machine)
+    → length (line at t a w m) < line_width)
   where
     by_reply :
         (at : ℕ) (t : ThreadNumber) (r : Reply) (m : Machine) (later : List (List ℕ)) (n : ℕ)
         → length (bytes_of later) ≤ n
         → length (bytes_of (lines_by line at t r m later)) ≤ line_width + n
-    by_reply at t (Accepted answer woken) m later n h =
-        one_line (line at t answer woken m) later n (short at t answer woken m) h
-    by_reply at t (Refused refusal) m later n h = stop_line at (Stop.Refused refusal) n
+    by_reply at t (Ok told) m later n h =
+        one_line (line at t told.answer told.woken m) later n (short at t told.answer told.woken m) h
+    by_reply at t (Err refusal) m later n h = stop_line at (Err (Stop.Refused refusal)) n
 
     -- at most a line's width for each event, and one more
     pub bytes_most :
         (at : ℕ) (m : Machine) (s : List ℕ)
         → length (bytes_of (event_lines line at m s)) ≤ line_width * (length s / event_width + 1)
     unfolding event_lines
-    bytes_most at m [] = omega (arith, stop_line at Stop.Ran 0)
-    bytes_most at m (odd ∷ []) = omega (arith, stop_line at Stop.Ran 0)
+    bytes_most at m [] = omega (arith, stop_line at (Ok tt) 0)
+    bytes_most at m (odd ∷ []) = omega (arith, stop_line at (Ok tt) 0)
     bytes_most at m (code ∷ t ∷ s) =
         let o = event_of m code (thread t) in
         let later = event_lines line (at + 1) o.machine s in

@@ -2,15 +2,14 @@
 -- In order: the files; prints that are wrong at a refused event, at an event that runs, at a refused file.
 -- Not here: the statement (Statements.antt), and that the right print satisfies it (Theorems.antt).
 -- Assumes nothing.
-use Rattle.std.specs.Prelude.{ℕ, ◌+◌, List, [], ◌∷◌, ◌++◌, ◌≡◌, refl, eqb, take, drop, get_or}
+use Rattle.std.specs.Prelude.{ℕ, ◌+◌, List, [], ◌∷◌, ◌++◌, ◌≡◌, refl, eqb, take, drop, get_or, Err, Ok}
 use Rattle.std.proofs.lemmas.Bool.{false≢true}
 use Rattle.std.proofs.Common.{ap, arith}
 use Rattle.word.specs.Number.{thread}
 use Rattle.word.specs.declared.number.ThreadNumber.{ThreadNumber}
+use Rattle.state.specs.Answer.{Reply}
 use Rattle.state.specs.Access.{access_of}
 use Rattle.state.specs.Machine.{fresh_of}
-use Rattle.state.specs.declared.answer.Reply.{Reply}
-use Rattle.state.specs.declared.answer.Reply.TheVariants.{Accepted, Refused}
 use Rattle.state.specs.declared.machine.Machine.{Machine}
 use Rattle.lock.specs.Event.{event_of}
 use Rattle.schedule.specs.File.{header_length, threads_in, checked_of}
@@ -18,6 +17,7 @@ use Rattle.schedule.specs.Replay.{replay_of}
 use Rattle.schedule.specs.Statements.{state_at}
 use Rattle.schedule.specs.Whole.{file_replay_of}
 use Rattle.schedule.specs.declared.file.FileRefusal.TheVariants.{TooShort}
+use Rattle.schedule.specs.declared.file.Head.{Head}
 use Rattle.schedule.specs.declared.whole.FileStop.TheVariants as Stop
 use Rattle.print.specs.Text.{decimal_by}
 use Rattle.print.specs.Replayed.{end_text}
@@ -29,6 +29,9 @@ use Rattle.print.specs.Statements.{Print, PrintsWhole}
 -- one thread begins try_write, and then again inside that call: refused 3
 abbrev again : List ℕ
 again = 1 ∷ 0 ∷ 0 ∷ 0 ∷ 5 ∷ 1 ∷ 3 ∷ 0 ∷ 3 ∷ 0 ∷ []
+
+abbrev head : Head
+head = record { threads = 1; events = 2 }
 
 -- fewer than six bytes
 abbrev short : List ℕ
@@ -62,12 +65,12 @@ ends_instead s = take (run s) (print_lines s) ++ end_text (run s) ∷ []
 pub ends_instead_refuted : PrintsWhole ends_instead → ⊥
 unfolding checked_of replay_of event_lines event_of access_of decimal_by
 ends_instead_refuted holds =
-    false≢true (ap (λ (text : List ℕ). eqb (get_or text 0 0) 114) (holds.accepted again 1 2 refl).stop)
+    false≢true (ap (λ (text : List ℕ). eqb (get_or text 0 0) 114) (holds.accepted again head refl).stop)
 
 -- the refusal, and then the later events all the same
 abbrev on_by : ℕ → ThreadNumber → Reply → Machine → List (List ℕ) → List (List ℕ)
-on_by at t (Accepted answer woken) m later = print_line at t answer woken m ∷ later
-on_by at t (Refused refusal) m later = stop_text at (Stop.Refused refusal) ∷ later
+on_by at t (Ok told) m later = print_line at t told.answer told.woken m ∷ later
+on_by at t (Err refusal) m later = stop_text at (Err (Stop.Refused refusal)) ∷ later
 
 abbrev on_lines : ℕ → Machine → List ℕ → List (List ℕ)
 on_lines at m [] = end_text at ∷ []
@@ -93,7 +96,7 @@ pub from_one_refuted : PrintsWhole from_one → ⊥
 unfolding checked_of replay_of state_at event_lines event_of access_of decimal_by
 from_one_refuted holds =
     false≢true
-    (ap (λ (text : List ℕ). eqb (get_or text 0 0) 48) ((holds.accepted again 1 2 refl).events 0 (omega arith)).told)
+    (ap (λ (text : List ℕ). eqb (get_or text 0 0) 48) ((holds.accepted again head refl).events 0 (omega arith)).told)
 
 -- ── a refused file ──
 

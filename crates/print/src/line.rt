@@ -7,6 +7,7 @@ pub const WIDTH: usize = 256;
 // The most digits that a 64-bit number has.
 pub const DIGITS: u8 = 20;
 
+// No ArrayString: it refuses a text that does not fit, and leaves open its spare bytes, which `byte_determined` fixes.
 #[derive(Clone, Copy)]
 pub struct Line {
     pub bytes: [u8; WIDTH],
@@ -23,31 +24,28 @@ impl Line {
         }
     }
 
+    // A new array: with a store in place at `mut self` a trace took a third longer.
     pub fn byte(self, b: u8) -> Line
         ensures { result ≡ put_of self b }
     {
-        let at = self.length;
-        if at < WIDTH {
+        if self.length < WIDTH {
             let mut bytes = self.bytes;
-            bytes[at] = b;
-            return Line {
-                bytes: bytes,
-                length: at + 1,
-            };
+            bytes[self.length] = b;
+            Line {
+                bytes,
+                length: self.length + 1,
+            }
+        } else {
+            self
         }
-        self
     }
 
+    // No `write!`: by its contract it may fail, and then says nothing of the text.
+    #[tactic(auto, unfolding(crate::specs::Line::put_all))]
     pub fn text(self, s: &[u8]) -> Line
         ensures { result ≡ put_all self s.now }
     {
-        let mut line = self;
-        let mut i: usize = 0;
-        while i < s.len() {
-            line = line.byte(s[i]);
-            i = i + 1;
-        }
-        line
+        s.iter().fold(self, |line, b| line.byte(*b))
     }
 
     pub fn decimal(self, n: u64) -> Line
@@ -57,15 +55,15 @@ impl Line {
     }
 }
 
+#[tactic(auto, using(crate::specs::Laws::digits))]
 fn numeral(line: Line, n: u64, places: u8) -> Line
     ensures { result ≡ put_all line (decimal_by places n) }
 {
     if places == 0 {
-        return line;
+        line
+    } else if n < 10 {
+        line.byte(b'0' + n as u8)
+    } else {
+        numeral(line, n / 10, places - 1).byte(b'0' + (n % 10) as u8)
     }
-    if n < 10 {
-        return line.byte(48 + n as u8);
-    }
-    let front = numeral(line, n / 10, places - 1);
-    front.byte(48 + (n % 10) as u8)
 }

@@ -9,23 +9,14 @@ use crate::line::{Line, WIDTH};
 fn fits(size: usize, at: usize, text: usize) -> bool
     ensures { result ≡ fits_of size at text }
 {
-    if text <= WIDTH {
-        if at <= size {
-            return text <= size - at;
-        }
-    }
-    false
+    text <= WIDTH && at <= size && text <= size - at
 }
 
 fn copy(page: &mut [u8], at: usize, line: Line)
     requires { (line.length ≤ line_width) × (at + line.length ≤ length page.old) }
     ensures { page.new ≡ copy_of page.old at line.bytes line.length }
 {
-    let mut i: usize = 0;
-    while i < line.length {
-        page[at + i] = line.bytes[i];
-        i = i + 1;
-    }
+    page[at..at + line.length].copy_from_slice(&line.bytes[..line.length]);
 }
 
 // Lays a line's text at `at`, and answers where the next goes. One that does not fit is not laid.
@@ -33,10 +24,10 @@ pub fn lay(page: &mut [u8], at: usize, line: Line) -> usize
     ensures value { result ≡ after_of (length page.old) at line }
     ensures page_after { page.new ≡ laid_of page.old at line }
 {
-    let text = line.length;
-    if fits(page.len(), at, text) {
+    if fits(page.len(), at, line.length) {
         copy(page, at, line);
-        return at + text;
+        at + line.length
+    } else {
+        at
     }
-    at
 }

@@ -4,19 +4,20 @@
 -- Not here: that an accepted event is one of the two (Happened.antt); what the rules do (Obeys.antt, RuleEnds.antt);
 -- the theorems (Theorems.antt).
 -- Assumes nothing.
-use Rattle.std.specs.Prelude.{ℕ, ◌+◌, Bool, true, false, not, List, ◌⊎◌, ◌≡◌, refl, leb, eqb, get_or}
+use Rattle.std.specs.Prelude.{ℕ, ◌+◌, Bool, true, false, not, List, ◌⊎◌, ◌≡◌, refl, leb, eqb, get_or, Option}
+use Rattle.std.specs.Prelude.{Some, None}
 use Rattle.std.proofs.Common.{inl, inr, ⊎_elim, sym, subst, ◌∙◌, arith, leb-true, eqb-true, get_or-set_same}
 use Rattle.std.proofs.Math.Path.{ap}
 use Rattle.word.specs.Base.{pick}
 use Rattle.word.specs.Cases.{pick_both, pick_first}
 use Rattle.word.specs.declared.flags.Word.{Word}
-use Rattle.word.specs.declared.number.Owner.{Owner}
 use Rattle.word.specs.declared.number.ThreadNumber.{ThreadNumber}
+use Rattle.state.specs.Replies.{same_answer, same_woken}
+use Rattle.state.specs.Answer.{accepted_with}
 use Rattle.state.specs.Access.{touched_of}
 use Rattle.state.specs.Machine.{Sized, blank_thread, thread_at, node_at}
 use Rattle.state.specs.Node.{blank_node}
 use Rattle.state.specs.declared.answer.Answer.{Answer}
-use Rattle.state.specs.declared.answer.Reply.TheVariants.{Accepted}
 use Rattle.state.specs.declared.machine.Machine.{Machine}
 use Rattle.state.specs.declared.machine.Outcome.{Outcome}
 use Rattle.state.specs.declared.machine.Thread.{Thread}
@@ -36,7 +37,7 @@ use Rattle.lock.specs.Still.{idle_is}
 use Rattle.lock.specs.Stored.{get_set, woken_word, woken_nodes, woken_place, woken_holding}
 use Rattle.lock.specs.declared.code.Call.{Call}
 use Rattle.lock.specs.declared.code.Code.{Code}
-use Rattle.lock.specs.declared.code.Code.TheVariants.{Begin, Step, Fail, Unknown}
+use Rattle.lock.specs.declared.code.Code.TheVariants.{Begin, Step, Fail}
 use Rattle.promises.proofs.Changes.{Moves, moves}
 use Rattle.promises.specs.Happened.{Begun, Stepping, Happened, begun, stepped, happened}
 use Rattle.promises.proofs.Obeys.{All, obeys}
@@ -57,27 +58,29 @@ begin_or_step code b =
     (λ e _. omega (arith, leb-true code 6 b, eqb-true code 16 e))
     (λ _ e. omega (arith, leb-true code 6 b, eqb-true code 17 e))
 
-not_begin : (code : ℕ) (call : Call) → pick (eqb code 16) Step (pick (eqb code 17) Fail Unknown) ≡ Begin call → ⊥
+not_begin : (code : ℕ) (call : Call)
+    → pick (eqb code 16) (Some Step) (pick (eqb code 17) (Some Fail) None) ≡ Some (Begin call)
+    → ⊥
 not_begin code call =
-    pick_both (λ (x : Code). x ≡ Begin call → ⊥)
+    pick_both (λ (x : Option Code). x ≡ Some (Begin call) → ⊥)
     (eqb code 16)
-    Step
-    (pick (eqb code 17) Fail Unknown)
-    (λ _ q. let z : ◌≡◌ {A = ℕ} 0 1 = cc in omega arith)
-    (λ _. pick_both (λ (x : Code). x ≡ Begin call → ⊥)
+    (Some Step)
+    (pick (eqb code 17) (Some Fail) None)
+    (λ _ q. cc)
+    (λ _. pick_both (λ (x : Option Code). x ≡ Some (Begin call) → ⊥)
     (eqb code 17)
-    Fail
-    Unknown
-    (λ _ q. let z : ◌≡◌ {A = ℕ} 0 1 = cc in omega arith)
-    (λ _ q. let z : ◌≡◌ {A = ℕ} 0 1 = cc in omega arith))
+    (Some Fail)
+    None
+    (λ _ q. cc)
+    (λ _ q. cc))
 
 -- a begin's code is one of 0..6
-pub begin_code : (code : ℕ) (call : Call) → code_of code ≡ Begin call → begins code ≡ true
+pub begin_code : (code : ℕ) (call : Call) → code_of code ≡ Some (Begin call) → begins code ≡ true
 begin_code code call e =
     (pick_first (leb code 6)
-    (Begin (call_of code))
-    (pick (eqb code 16) Step (pick (eqb code 17) Fail Unknown))
-    (Begin call)
+    (Some (Begin (call_of code)))
+    (pick (eqb code 16) (Some Step) (pick (eqb code 17) (Some Fail) None))
+    (Some (Begin call))
     (not_begin code call)
     e
     ).0
@@ -102,9 +105,9 @@ fails_17 code true e = subst (λ (n : ℕ). true ≡ eqb n 17) (sym e) refl
 fails_17 code false e = subst (λ (n : ℕ). false ≡ eqb n 17) (sym e) refl
 
 -- an accepted event on 16 or 17 is a step that was made
-pub step_made : (m : Machine) (code : ℕ) (t : ThreadNumber) (a : Answer) (w : Owner)
+pub step_made : (m : Machine) (code : ℕ) (t : ThreadNumber) (a : Answer) (w : Option ThreadNumber)
     → steps code ≡ true
-    → (event_of m code t).reply ≡ Accepted a w
+    → (event_of m code t).reply ≡ accepted_with a w
     → Stepping m code t (event_of m code t)
 step_made m code t a w is_step e = by (happened m code t a w e)
   where
@@ -114,8 +117,8 @@ step_made m code t a w is_step e = by (happened m code t a w e)
 
 -- ── a step that was made ──
 
-module _ (m : Machine) (code : ℕ) (t : ThreadNumber) (a : Answer) (w : Owner)
-    (e : (event_of m code t).reply ≡ Accepted a w) (s : Stepping m code t (event_of m code t)) where
+module _ (m : Machine) (code : ℕ) (t : ThreadNumber) (a : Answer) (w : Option ThreadNumber)
+    (e : (event_of m code t).reply ≡ accepted_with a w) (s : Stepping m code t (event_of m code t)) where
   abbrev pub here : Place
   here = place_of m t
 
@@ -132,14 +135,14 @@ module _ (m : Machine) (code : ℕ) (t : ThreadNumber) (a : Answer) (w : Owner)
   pub obeyed : Obeys seen here s.c
   obeyed = by_rule (Obeys seen here) (obeys seen here)
 
-  replied : Accepted s.c.answer s.c.woken ≡ Accepted a w
+  replied : accepted_with s.c.answer s.c.woken ≡ accepted_with a w
   replied = sym (ap (λ (o : Outcome). o.reply) s.is) ∙ e
 
   pub woke : s.c.woken ≡ w
-  woke = cc replied
+  woke = same_woken replied
 
   pub answered : s.c.answer ≡ a
-  answered = cc replied
+  answered = same_answer replied
 
   -- the change stored, before the wake
   abbrev pub laid : Machine

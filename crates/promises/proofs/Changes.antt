@@ -1,7 +1,7 @@
 -- Where a rule grants, releases or downgrades, the word changes, but for a contended reader's subtraction:
 -- each such place by its own words.
 -- Assumes nothing.
-use Rattle.std.specs.Prelude.{ℕ, ◌+◌, ◌<◌, Bool, true, false, not, ◌⊎◌, ◌≡◌, T, eqb, ltb}
+use Rattle.std.specs.Prelude.{ℕ, ◌+◌, ◌<◌, Bool, true, false, not, ◌⊎◌, ◌≡◌, T, eqb, ltb, Err, Ok, Option, Some, None}
 use Rattle.std.proofs.Math.Logic.{inl, inr}
 use Rattle.std.proofs.Math.Path.{refl}
 use Rattle.std.proofs.Common.{sym, ap, subst, ◌∙◌, arith}
@@ -10,16 +10,12 @@ use Rattle.word.specs.Base.{pick}
 use Rattle.word.specs.Cases.{pick_both}
 use Rattle.word.specs.Flags.{word, LOCKED, QUEUE_LOCKED, DOWNGRADED, SINGLE, locked, queued}
 use Rattle.word.specs.Flags.{queue_locked, downgraded, clear_locked, set_queue_locked, set_downgraded}
-use Rattle.word.specs.Rules.{read_lock_of, write_lock_of, read_unlock_of}
+use Rattle.word.specs.Rules.{read_unlock_of}
 use Rattle.word.specs.Laws.{read_lock_more, write_lock_granted, read_unlock_less, clear_has, set_has, set_keeps}
 use Rattle.word.specs.declared.flags.Word.{Word}
-use Rattle.word.specs.declared.rules.ReadLocked.{ReadLocked}
-use Rattle.word.specs.declared.rules.ReadLocked.TheVariants.{To as ReadTo, Refused as ReadRefused}
-use Rattle.word.specs.declared.rules.WriteLocked.{WriteLocked}
-use Rattle.word.specs.declared.rules.WriteLocked.TheVariants.{To as WriteTo, Refused as WriteRefused}
 use Rattle.word.specs.declared.rules.ReadUnlocked.{ReadUnlocked}
 use Rattle.word.specs.declared.rules.ReadUnlocked.TheVariants.{To as UnlockTo, Contended, Refused as UnlockRefused}
-use Rattle.state.specs.View.{at, end, agrees_of, stays, writes}
+use Rattle.state.specs.View.{at, end, agrees_of, stays, writes, Stepped}
 use Rattle.state.specs.declared.answer.Answer.TheVariants.{Done}
 use Rattle.state.specs.declared.holding.Holding.{Holding}
 use Rattle.state.specs.declared.holding.Holding.TheVariants.{Nothing as HoldsNothing, Read}
@@ -28,12 +24,8 @@ use Rattle.state.specs.declared.place.Place.TheVariants as At
 use Rattle.state.specs.declared.view.View.{View}
 use Rattle.state.specs.declared.view.Next.{Next}
 use Rattle.state.specs.declared.view.Change.{Change}
-use Rattle.state.specs.declared.view.Stepped.{Stepped}
-use Rattle.state.specs.declared.view.Stepped.TheVariants.{To, Refused}
-use Rattle.acquire.specs.LockContended.{permitted_of, by_read, by_write, granted_of, fill_of, contend_by}
+use Rattle.acquire.specs.LockContended.{permitted_of, granted_of, fill_of, contend_by}
 use Rattle.acquire.specs.LockContended.{contend_judged, contend_cas_by, contend_cas_of, spin_count}
-use Rattle.acquire.specs.declared.lock_contended.Permitted.{Permitted}
-use Rattle.acquire.specs.declared.lock_contended.Permitted.TheVariants.{To as PermitTo, Refused as PermitRefused}
 use Rattle.release.specs.ReadUnlock.{read_unlock_by, read_unlock_judged, read_unlock_cas_by, read_unlock_cas_of}
 use Rattle.release.specs.WriteUnlock.{write_unlock_cas_of}
 use Rattle.release.specs.UnlockContended.{released_to, after_release, release_cas_of}
@@ -50,8 +42,8 @@ abbrev pub Moves : View → Place → Change → Type 0
 Moves v p c = (lock_done v p c ≡ keeps) ⊎ ((not (eqb c.word.0 v.word.0) ≡ true) ⊎ (subtracting p ≡ true))
 
 everywhere : (v : View) (p : Place) → ((c : Change) → Moves v p c) → (s : Stepped) → All (Moves v p) s
-everywhere v p f (To c) = f c
-everywhere v p f (Refused r) = tt
+everywhere v p f (Ok c) = f c
+everywhere v p f (Err r) = tt
 
 true_not_false : true ≡ false → ⊥
 true_not_false e = subst T e tt
@@ -83,19 +75,9 @@ not_flag false e = refl
 -- ── the words that are written ──
 
 -- the lock rule's word is above the one seen
-permit_more : (writer : Bool) (seen to : Word) → permitted_of writer seen ≡ PermitTo to → seen.0 < to.0
-permit_more true seen to e = by (write_lock_of seen) refl e
-  where
-    by : (r : WriteLocked) → write_lock_of seen ≡ r → by_write r ≡ PermitTo to → seen.0 < to.0
-    by (WriteTo x) q h =
-        let i : x ≡ to = cc in
-        omega (arith, ap (λ (y : Word). y.0) (write_lock_granted seen x q).1, ap (λ (y : Word). y.0) i)
-    by WriteRefused q h = let z : ◌≡◌ {A = ℕ} 0 1 = cc in absurd (omega arith)
-permit_more false seen to e = by (read_lock_of seen) refl e
-  where
-    by : (r : ReadLocked) → read_lock_of seen ≡ r → by_read r ≡ PermitTo to → seen.0 < to.0
-    by (ReadTo x) q h = let i : x ≡ to = cc in omega (arith, read_lock_more seen x q, ap (λ (y : Word). y.0) i)
-    by ReadRefused q h = let z : ◌≡◌ {A = ℕ} 0 1 = cc in absurd (omega arith)
+permit_more : (writer : Bool) (seen to : Word) → permitted_of writer seen ≡ Some to → seen.0 < to.0
+permit_more true seen to e = omega (arith, ap (λ (y : Word). y.0) (write_lock_granted seen to e).1)
+permit_more false seen to e = read_lock_more seen to e
 
 -- a release takes LOCKED off
 released_unlocked : (seen : Word) → locked (released_to seen) ≡ false
@@ -136,11 +118,11 @@ module _ (v : View) where
       → All (Moves v p) (writes v w h next)
   written p seen w h next a n = inr (inl (changed w.0 v.word.0 (λ e. n (e ∙ agrees_word v seen a))))
 
-  contend_by_lem : (writer : Bool) (reloads : ℕ) (seen : Word) (r : Permitted)
+  contend_by_lem : (writer : Bool) (reloads : ℕ) (seen : Word) (r : Option Word)
       → All (Moves v (At.ContendCas writer reloads seen)) (contend_by v writer reloads v.word r)
   unfolding lock_effect stand_of
-  contend_by_lem writer reloads seen (PermitTo to) = inl refl
-  contend_by_lem writer reloads seen PermitRefused =
+  contend_by_lem writer reloads seen (Some to) = inl refl
+  contend_by_lem writer reloads seen None =
       pick_both (All (Moves v (At.ContendCas writer reloads seen)))
       (queued v.word)
       (fill_of v writer reloads v.word)
@@ -151,14 +133,14 @@ module _ (v : View) where
       (stays v (at (At.ContendLoad writer (reloads + 1)))) (fill_of v writer reloads v.word)
       (λ _. inl refl) (λ _. inl refl))
 
-  contend_compared : (writer : Bool) (reloads : ℕ) (seen : Word) (r : Permitted)
+  contend_compared : (writer : Bool) (reloads : ℕ) (seen : Word) (r : Option Word)
       → permitted_of writer seen ≡ r
       → agrees_of v seen ≡ true
       → All (Moves v (At.ContendCas writer reloads seen)) (contend_cas_by v writer reloads r)
-  contend_compared writer reloads seen (PermitTo to) e a =
+  contend_compared writer reloads seen (Some to) e a =
       written (At.ContendCas writer reloads seen) seen to (granted_of writer v.holding) (end Done) a
       (λ q. omega (arith, permit_more writer seen to e, q))
-  contend_compared writer reloads seen PermitRefused e a =
+  contend_compared writer reloads seen None e a =
       contend_by_lem writer reloads seen (permitted_of writer v.word)
 
   contend_cas : (writer : Bool) (reloads : ℕ) (seen : Word)

@@ -2,18 +2,17 @@
 -- for `no`; the place of a code; a step and a begin.
 -- Not here: the statement (Statements.antt); yes at the grant (Grants.antt).
 -- Assumes nothing.
-use Rattle.std.specs.Prelude.{ℕ, Bool, true, false, not, ◌≡◌, refl, eqb, leb}
+use Rattle.std.specs.Prelude.{ℕ, Bool, true, false, not, ◌≡◌, refl, eqb, leb, Some, Option, None}
 use Rattle.std.proofs.Common.{sym, ap, ◌∙◌, arith, get_or-set_same}
 use Rattle.word.specs.Base.{pick}
 use Rattle.word.specs.Cases.{pick_yes}
-use Rattle.word.specs.declared.number.Owner.{Owner}
-use Rattle.word.specs.declared.number.Owner.TheVariants.{Nobody}
 use Rattle.word.specs.declared.number.ThreadNumber.{ThreadNumber}
+use Rattle.state.specs.Replies.{same_answer, same_woken}
+use Rattle.state.specs.Answer.{accepted_with}
 use Rattle.state.specs.Access.{access_of}
 use Rattle.state.specs.Machine.{Sized, thread_at, blank_thread}
 use Rattle.state.specs.declared.answer.Answer.{Answer}
 use Rattle.state.specs.declared.answer.Answer.TheVariants.{Begun, Went, Done, Yes, No}
-use Rattle.state.specs.declared.answer.Reply.TheVariants.{Accepted}
 use Rattle.state.specs.declared.machine.Machine.{Machine}
 use Rattle.state.specs.declared.machine.Outcome.{Outcome}
 use Rattle.state.specs.declared.machine.Thread.{Thread}
@@ -163,9 +162,9 @@ call_place code =
 
 -- ── a step and a begin ──
 
-step_ends : (m : Machine) (code : ℕ) (t : ThreadNumber) (a : Answer) (w : Owner)
+step_ends : (m : Machine) (code : ℕ) (t : ThreadNumber) (a : Answer) (w : Option ThreadNumber)
     → Sized m
-    → (e : (event_of m code t).reply ≡ Accepted a w)
+    → (e : (event_of m code t).reply ≡ accepted_with a w)
     → Stepping m code t (event_of m code t)
     → Ended m t a (event_of m code t).machine
 step_ends m code t a w z e s =
@@ -184,23 +183,23 @@ step_ends m code t a w z e s =
       no = left_over a (tries (place_of m t)) (is_idle (place_of m' t)) _ idle done granted;
     }
 
-begun_ends : (m : Machine) (code : ℕ) (t : ThreadNumber) (a : Answer) (w : Owner)
+begun_ends : (m : Machine) (code : ℕ) (t : ThreadNumber) (a : Answer) (w : Option ThreadNumber)
     → Sized m
     → begins code ≡ true
-    → (event_of m code t).reply ≡ Accepted a w
+    → (event_of m code t).reply ≡ accepted_with a w
     → BegunCall m code t (event_of m code t)
     → Began code t a w (event_of m code t).machine
 begun_ends m code t a w z begins_it e b =
-    let reply : Accepted Begun Nobody ≡ Accepted a w = sym (ap (λ (o : Outcome). o.reply) b.is) ∙ e in
-    let coded : Begin (call_of code) ≡ Begin b.call =
-    pick_yes (leb code 6) (Begin (call_of code)) (Begin (call_of code)) _ begins_it refl ∙ b.codes in
+    let reply : accepted_with Begun None ≡ accepted_with a w = sym (ap (λ (o : Outcome). o.reply) b.is) ∙ e in
+    let coded : Some (Begin (call_of code)) ≡ Some (Begin b.call) =
+    pick_yes (leb code 6) (Some (Begin (call_of code))) (Some (Begin (call_of code))) _ begins_it refl ∙ b.codes in
     let call : call_of code ≡ b.call = cc in
     let placed =
     get_or-set_same m.threads t.0 (placed_of (thread_at m t.0) (first_place b.call)) blank_thread
     (omega (arith, b.below, (good_count_lem m.count b.good).1, z.threads)) in
     record {
-      answer = cc;
-      woken = cc;
+      answer = sym (same_answer reply);
+      woken = sym (same_woken reply);
       place = ap (λ x. place_of x t) (begun_is m code t b) ∙
           (ap (λ (u : Thread). u.place) placed ∙ (ap first_place (sym call) ∙ call_place code));
     }
@@ -212,10 +211,10 @@ ends_exactly =
       begin = λ m code t a w z b e. by m code t a w z b e (happened m code t a w e);
     }
   where
-    by : (m : Machine) (code : ℕ) (t : ThreadNumber) (a : Answer) (w : Owner)
+    by : (m : Machine) (code : ℕ) (t : ThreadNumber) (a : Answer) (w : Option ThreadNumber)
         → Sized m
         → begins code ≡ true
-        → (event_of m code t).reply ≡ Accepted a w
+        → (event_of m code t).reply ≡ accepted_with a w
         → Happened m code t (event_of m code t)
         → Began code t a w (event_of m code t).machine
     by m code t a w z b e (stepped s) = step_not_begin m code t b s

@@ -2,7 +2,7 @@
 -- to; every place; the tail's mark; the machine.
 -- Not here: the statement (Statements.antt); the table (Goes.antt).
 -- Assumes nothing.
-use Rattle.std.specs.Prelude.{ℕ, ◌+◌, ◌-◌, Bool, true, false, ◌≡◌, eqb, ltb}
+use Rattle.std.specs.Prelude.{ℕ, ◌+◌, ◌-◌, Bool, true, false, ◌≡◌, eqb, ltb, Err, Option, Some, None}
 use Rattle.std.proofs.Math.Path.{refl}
 use Rattle.std.proofs.Common.{sym, ap, subst, ◌∙◌, arith}
 use Rattle.word.specs.Base.{pick}
@@ -11,17 +11,13 @@ use Rattle.word.specs.Number.{is_none, owner_of, slot_of}
 use Rattle.word.specs.Rules.{read_lock_of, registered_of, read_unlock_of}
 use Rattle.word.specs.declared.flags.Word.{Word}
 use Rattle.word.specs.declared.number.NodeNumber.{NodeNumber}
-use Rattle.word.specs.declared.number.Slot.{Slot}
-use Rattle.word.specs.declared.number.Slot.TheVariants.{Outside, At as InSlot}
-use Rattle.word.specs.declared.rules.ReadLocked.{ReadLocked}
-use Rattle.word.specs.declared.rules.ReadLocked.TheVariants.{To as ReadTo, Refused as ReadRefused}
 use Rattle.word.specs.declared.rules.ReadUnlocked.{ReadUnlocked}
 use Rattle.word.specs.declared.rules.ReadUnlocked.TheVariants.{To as UnlockTo, Contended, Refused as UnlockRefused}
 use Rattle.state.specs.Access.{access_of}
 use Rattle.state.specs.Holding.{released_write, downgraded_to}
 use Rattle.state.specs.Machine.{thread_at, node_at}
 use Rattle.state.specs.Node.{with_tail, with_completed}
-use Rattle.state.specs.View.{at, agrees_of, stays, writes, completes, after_queue}
+use Rattle.state.specs.View.{at, agrees_of, stays, writes, completes, after_queue, Stepped}
 use Rattle.state.specs.declared.answer.Refusal.TheVariants.{Damaged}
 use Rattle.state.specs.declared.machine.Machine.{Machine}
 use Rattle.state.specs.declared.place.Place.{Place}
@@ -33,13 +29,9 @@ use Rattle.state.specs.declared.view.Change.{Change}
 use Rattle.state.specs.declared.view.Mark.{Mark}
 use Rattle.state.specs.declared.view.Mark.TheVariants.{Missing, Reader, Writer}
 use Rattle.state.specs.declared.view.Next.{Next}
-use Rattle.state.specs.declared.view.Stepped.{Stepped}
-use Rattle.state.specs.declared.view.Stepped.TheVariants.{Refused}
 use Rattle.state.specs.declared.view.View.{View}
 use Rattle.acquire.specs.LockContended.{permitted_of, contend_by, contend_judged, contend_cas_by, after_register}
 use Rattle.acquire.specs.TryRead.{try_read_by, try_read_judged, try_read_cas_by}
-use Rattle.acquire.specs.declared.lock_contended.Permitted.{Permitted}
-use Rattle.acquire.specs.declared.lock_contended.Permitted.TheVariants.{To as PermitTo, Refused as PermitRefused}
 use Rattle.unlock.specs.AfterWalk.{marked_by}
 use Rattle.release.specs.Downgrade.{downgraded_word, after_downgrade}
 use Rattle.release.specs.ReadUnlock.{read_unlock_by, read_unlock_judged, read_unlock_cas_by}
@@ -84,7 +76,7 @@ by_bit : (b : Bool) (s s' : Stepped) (p p' : Place)
 by_bit true s s' p p' f g = f
 by_bit false s s' p p' f g = g
 
-unless_refused_lem : (b : Bool) (s : Stepped) (p : Place) → All (To p) s → All (To p) (pick b (Refused Damaged) s)
+unless_refused_lem : (b : Bool) (s : Stepped) (p : Place) → All (To p) s → All (To p) (pick b (Err Damaged) s)
 unless_refused_lem true s p f = tt
 unless_refused_lem false s p f = f
 
@@ -101,23 +93,23 @@ Marked Writer b = b ≡ true
 module _ (v : View) where
   -- ── what a judged word leads to ──
 
-  tries_to : (b : Bool) (r : ReadLocked) → All (To (tries_on b v.word r)) (try_read_by v b v.word r)
-  tries_to b (ReadTo to) = refl
-  tries_to true ReadRefused = refl
-  tries_to false ReadRefused = refl
+  tries_to : (b : Bool) (r : Option Word) → All (To (tries_on b v.word r)) (try_read_by v b v.word r)
+  tries_to b (Some to) = refl
+  tries_to true None = refl
+  tries_to false None = refl
 
-  tried_to : (b : Bool) (r : ReadLocked) → All (To (tried_on b v.word r)) (try_read_cas_by v b r)
-  tried_to true (ReadTo to) = refl
-  tried_to false (ReadTo to) = refl
-  tried_to b ReadRefused = tries_to b (read_lock_of v.word)
+  tried_to : (b : Bool) (r : Option Word) → All (To (tried_on b v.word r)) (try_read_cas_by v b r)
+  tried_to true (Some to) = refl
+  tried_to false (Some to) = refl
+  tried_to b None = tries_to b (read_lock_of v.word)
 
-  contends_to : (w : Bool) (r : ℕ) (y : Permitted) → All (To (contends_on w r v.word y)) (contend_by v w r v.word y)
-  contends_to w r (PermitTo to) = refl
-  contends_to w r PermitRefused = either (queued v.word) _ _ _ _ refl (either (ltb r 7) _ _ _ _ refl refl)
+  contends_to : (w : Bool) (r : ℕ) (y : Option Word) → All (To (contends_on w r v.word y)) (contend_by v w r v.word y)
+  contends_to w r (Some to) = refl
+  contends_to w r None = either (queued v.word) _ _ _ _ refl (either (ltb r 7) _ _ _ _ refl refl)
 
-  contended_to : (w : Bool) (r : ℕ) (y : Permitted) → All (To (contended_on w r v.word y)) (contend_cas_by v w r y)
-  contended_to w r (PermitTo to) = refl
-  contended_to w r PermitRefused = contends_to w r (permitted_of w v.word)
+  contended_to : (w : Bool) (r : ℕ) (y : Option Word) → All (To (contended_on w r v.word y)) (contend_cas_by v w r y)
+  contended_to w r (Some to) = refl
+  contended_to w r None = contends_to w r (permitted_of w v.word)
 
   unlocks_to : (y : ReadUnlocked) → All (To (unlocks_on v.word y)) (read_unlock_by v v.word y)
   unlocks_to (UnlockTo to) = refl
@@ -255,9 +247,9 @@ marked_by_lem false = refl
 mark_is : (m : Machine) (tail : NodeNumber) → Marked (mark_of m tail) (writer_of m tail)
 mark_is m tail = by (slot_of tail m.count) refl
   where
-    by : (s : Slot) → slot_of tail m.count ≡ s → Marked (mark_by m s) (writer_of m tail)
-    by Outside e = tt
-    by (InSlot k) e =
+    by : (s : Option ℕ) → slot_of tail m.count ≡ s → Marked (mark_by m s) (writer_of m tail)
+    by None e = tt
+    by (Some k) e =
         subst (λ j. Marked (pick (node_at m j).writer Writer Reader) (writer_of m tail))
         (let f : tail.0 ≡ k + 1 = (slot_at tail m.count k e).0 in omega (arith, f))
         (marked_by_lem (writer_of m tail))

@@ -3,17 +3,15 @@
 -- Not here: the statements (Statements.antt); what an effect is (lock, Effect.antt); where an effect changes the word
 -- (Changes.antt).
 -- Assumes nothing.
-use Rattle.std.specs.Prelude.{ℕ, Bool, true, false, not, ◌⊎◌, ◌≡◌, refl, eqb}
+use Rattle.std.specs.Prelude.{ℕ, Bool, true, false, not, ◌⊎◌, ◌≡◌, refl, eqb, Err, Ok, Option, None}
 use Rattle.std.proofs.Common.{inl, inr, ⊎_elim, sym, ap, subst, ◌∙◌, eq-eqb, eqb-true}
 use Rattle.std.proofs.lemmas.Bool.{eqb-false}
-use Rattle.word.specs.declared.number.Owner.{Owner}
-use Rattle.word.specs.declared.number.Owner.TheVariants.{Nobody}
 use Rattle.word.specs.declared.number.ThreadNumber.{ThreadNumber}
+use Rattle.state.specs.Replies.{same_answer}
+use Rattle.state.specs.Answer.{Reply, accepted_with}
 use Rattle.state.specs.Machine.{Sized, thread_at}
 use Rattle.state.specs.declared.answer.Answer.{Answer}
 use Rattle.state.specs.declared.answer.Answer.TheVariants.{Begun as BegunAnswer}
-use Rattle.state.specs.declared.answer.Reply.{Reply}
-use Rattle.state.specs.declared.answer.Reply.TheVariants.{Accepted, Refused}
 use Rattle.state.specs.declared.holding.Holding.{Holding}
 use Rattle.state.specs.declared.machine.Machine.{Machine}
 use Rattle.state.specs.declared.machine.Outcome.{Outcome}
@@ -50,8 +48,8 @@ held_by m t x = held_after x (thread_at m t.0).holding
 
 -- ── a step ──
 
-module _ (m : Machine) (code : ℕ) (t : ThreadNumber) (a : Answer) (w : Owner)
-    (e : (event_of m code t).reply ≡ Accepted a w) (s : Stepping m code t (event_of m code t)) (z : Sized m) where
+module _ (m : Machine) (code : ℕ) (t : ThreadNumber) (a : Answer) (w : Option ThreadNumber)
+    (e : (event_of m code t).reply ≡ accepted_with a w) (s : Stepping m code t (event_of m code t)) (z : Sized m) where
   step_holding : Follows m t (event_of m code t).machine
   step_holding =
       own_holding m code t a w e s z ∙
@@ -70,16 +68,16 @@ module _ (m : Machine) (code : ℕ) (t : ThreadNumber) (a : Answer) (w : Owner)
 
 -- ── a begin ──
 
-begun_answers : (m : Machine) (code : ℕ) (t : ThreadNumber) (a : Answer) (w : Owner)
-    → (event_of m code t).reply ≡ Accepted a w
+begun_answers : (m : Machine) (code : ℕ) (t : ThreadNumber) (a : Answer) (w : Option ThreadNumber)
+    → (event_of m code t).reply ≡ accepted_with a w
     → Begun m code t (event_of m code t)
     → Answers m t a (event_of m code t).machine
 unfolding tries acquires
 begun_answers m code t a w e b =
     let i = idle_is (place_of m t) b.idle in
     let granted = grants (effect_of t m (event_of m code t).machine).lock in
-    let r : Accepted BegunAnswer Nobody ≡ Accepted a w = sym (ap (λ (o : Outcome). o.reply) b.is) ∙ e in
-    let is : BegunAnswer ≡ a = cc in (
+    let r : accepted_with BegunAnswer None ≡ accepted_with a w = sym (ap (λ (o : Outcome). o.reply) b.is) ∙ e in
+    let is : BegunAnswer ≡ a = same_answer r in (
       ap is_yes (sym is) ∙ ap (λ (p : Place). and (tries p) granted) (sym i),
       subst (λ (p : Place). Unless (not (acquires p)) (is_done a ≡ granted)) (sym i) tt,
     )
@@ -97,7 +95,7 @@ refused_has_no_effect m t = (
 pub holding_follows_effect : HoldingFollowsEffect event_of
 holding_follows_effect m code t z = by (event_of m code t).reply refl
   where
-    accepted : (a : Answer) (w : Owner) → (event_of m code t).reply ≡ Accepted a w
+    accepted : (a : Answer) (w : Option ThreadNumber) → (event_of m code t).reply ≡ accepted_with a w
         → Happened m code t (event_of m code t)
         → Follows m t (event_of m code t).machine
     accepted a w e (begun b) =
@@ -106,8 +104,8 @@ holding_follows_effect m code t z = by (event_of m code t).reply refl
     accepted a w e (stepped s) = step_holding m code t a w e s z
 
     by : (r : Reply) → (event_of m code t).reply ≡ r → Follows m t (event_of m code t).machine
-    by (Accepted a w) e = accepted a w e (happened m code t a w e)
-    by (Refused r) e =
+    by (Ok told) e = accepted told.answer told.woken e (happened m code t told.answer told.woken e)
+    by (Err r) e =
         subst (Follows m t)
         (sym (refused_unchanged m code t r e))
         (sym (ap (held_by m t) (refused_has_no_effect m t).0))
@@ -127,8 +125,8 @@ own_kept : (m : Machine) (code : ℕ) (t : ThreadNumber)
 own_kept m code t z e = holding_follows_effect m code t z ∙ ap (held_by m t) e
 
 -- what holds of the thread that moved holds of every thread, the others keeping their holding
-by_thread : (m : Machine) (code : ℕ) (t : ThreadNumber) (a : Answer) (w : Owner) {X : Type 0}
-    → (event_of m code t).reply ≡ Accepted a w
+by_thread : (m : Machine) (code : ℕ) (t : ThreadNumber) (a : Answer) (w : Option ThreadNumber) {X : Type 0}
+    → (event_of m code t).reply ≡ accepted_with a w
     → ((thread_at (event_of m code t).machine t.0).holding ≡ (thread_at m t.0).holding) ⊎ X
     → (u : ℕ)
     → ((thread_at (event_of m code t).machine u).holding ≡ (thread_at m u).holding) ⊎ ((u ≡ t.0) × X)

@@ -1,7 +1,7 @@
 -- Every place's rule obeys: one law for each way a rule ends (nothing changes, the word is written,
 -- a node is stored to), then the places.
 -- Assumes nothing.
-use Rattle.std.specs.Prelude.{ℕ, ◌+◌, ◌-◌, Bool, not, ◌⊎◌, ◌≡◌, T, eqb, ltb}
+use Rattle.std.specs.Prelude.{ℕ, ◌+◌, ◌-◌, Bool, not, ◌⊎◌, ◌≡◌, T, eqb, ltb, Err, Ok, Option, Some, None}
 use Rattle.std.proofs.Math.Bool.{true, false}
 use Rattle.std.proofs.Math.Logic.{inl}
 use Rattle.std.proofs.Common.{inr, sym, subst, ◌∙◌, arith, eq-eqb, ne_eqb, eqb-true}
@@ -15,15 +15,12 @@ use Rattle.word.specs.Rules.{registered_of, taken_of, read_lock_of, read_unlock_
 use Rattle.word.specs.Laws.{read_lock_more}
 use Rattle.word.specs.declared.flags.Word.{Word}
 use Rattle.word.specs.declared.number.NodeNumber.{NodeNumber}
-use Rattle.word.specs.declared.number.Owner.TheVariants.{Nobody}
-use Rattle.word.specs.declared.rules.ReadLocked.{ReadLocked}
-use Rattle.word.specs.declared.rules.ReadLocked.TheVariants.{To as ReadTo, Refused as ReadRefused}
 use Rattle.word.specs.declared.rules.ReadUnlocked.{ReadUnlocked}
 use Rattle.word.specs.declared.rules.ReadUnlocked.TheVariants.{To as UnlockTo, Contended, Refused as UnlockRefused}
 use Rattle.state.specs.Access.{access_of}
 use Rattle.state.specs.Node.{filled_of, with_next, with_prev, with_tail, with_completed}
 use Rattle.state.specs.View.{at, end, after_queue, walk_from, agrees_of, stays, writes, links, subtracts, completes}
-use Rattle.state.specs.View.{parks}
+use Rattle.state.specs.View.{parks, Stepped}
 use Rattle.state.specs.declared.access.Kind.{Kind}
 use Rattle.state.specs.declared.access.Kind.TheVariants.{Nothing, Load, Store, WeakCompare, StrongCompare, FetchOr}
 use Rattle.state.specs.declared.access.Kind.TheVariants.{Subtract as Subtracting, Complete, Park as Parking}
@@ -46,8 +43,6 @@ use Rattle.state.specs.declared.view.Mark.TheVariants.{Missing, Reader, Writer}
 use Rattle.state.specs.declared.view.View.{View}
 use Rattle.state.specs.declared.view.Next.{Next as Onward}
 use Rattle.state.specs.declared.view.Change.{Change}
-use Rattle.state.specs.declared.view.Stepped.{Stepped}
-use Rattle.state.specs.declared.view.Stepped.TheVariants.{To, Refused}
 use Rattle.lock.specs.Advance.{advance_of}
 use Rattle.lock.specs.Effect.{LockEffect, Stand, ended, walks, elsewhere, keeps, grants_read, grants_write}
 use Rattle.lock.specs.Effect.{releases_read}
@@ -58,8 +53,6 @@ use Rattle.acquire.specs.TryWrite.{try_write_or_of}
 use Rattle.acquire.specs.LockContended.{permitted_of, fill_of, contend_by, contend_judged, contend_load_of}
 use Rattle.acquire.specs.LockContended.{contend_cas_by}
 use Rattle.acquire.specs.LockContended.{contend_cas_of, after_register, register_cas_of, spin_count}
-use Rattle.acquire.specs.declared.lock_contended.Permitted.{Permitted}
-use Rattle.acquire.specs.declared.lock_contended.Permitted.TheVariants.{To as PermitTo, Refused as PermitRefused}
 use Rattle.acquire.specs.Wait.{completed_load_of, park_of}
 use Rattle.unlock.specs.AfterWalk.{marked_by, tail_marked, tail_found, walk_head_of}
 use Rattle.unlock.specs.UnlockQueue.{walk_again, queue_cas_of, split_prev_of, split_store_of}
@@ -78,8 +71,8 @@ use Rattle.promises.specs.Shared.{takes_token, tries, acquires, is_yes, is_done,
 
 -- a claim for every step that a rule accepts
 abbrev pub All : (Change → Type 0) → Stepped → Type 0
-All P (To c) = P c
-All P (Refused r) = Unit
+All P (Ok c) = P c
+All P (Err r) = Unit
 
 unless_any : {T : Type 0} (b : Bool) → T → Unless b T
 unless_any true x = tt
@@ -136,7 +129,7 @@ and_none false = refl
 module _ (v : View) (p : Place) where
   -- nothing shared changes, nothing is granted
   stays_obeys : (next : Onward)
-      → woken_by (access_of v.me p).kind (access_of v.me p).location ≡ Nobody
+      → woken_by (access_of v.me p).kind (access_of v.me p).location ≡ None
       → lock_effect p v.holding false (stand_of next.place) ≡ keeps
       → is_yes next.answer ≡ false
       → is_done next.answer ≡ false
@@ -159,7 +152,7 @@ module _ (v : View) (p : Place) where
   module _ (w : Word) (h : Holding) (next : Onward) (x : LockEffect)
       (e : lock_effect p v.holding (not (eqb w.0 v.word.0)) (stand_of next.place) ≡ x) where
     writes_obeys : Unless (writes_word (access_of v.me p).kind) (w ≡ v.word)
-        → woken_by (access_of v.me p).kind (access_of v.me p).location ≡ Nobody
+        → woken_by (access_of v.me p).kind (access_of v.me p).location ≡ None
         → h ≡ held_after x v.holding
         → is_yes next.answer ≡ and (tries p) (grants x)
         → Unless (not (acquires p)) (is_done next.answer ≡ grants x)
@@ -181,7 +174,7 @@ module _ (v : View) (p : Place) where
   links_obeys : (n : Node) (next : Onward)
       → (n ≡ kept_but (access_of v.me p) n v.node)
       ⊎ ((fills p ≡ true) × ((writer : Bool) × (n ≡ filled_of v.me writer v.word)))
-      → woken_by (access_of v.me p).kind (access_of v.me p).location ≡ Nobody
+      → woken_by (access_of v.me p).kind (access_of v.me p).location ≡ None
       → lock_effect p v.holding false (stand_of next.place) ≡ keeps
       → is_yes next.answer ≡ false
       → is_done next.answer ≡ false
@@ -193,7 +186,7 @@ module _ (v : View) (p : Place) where
         node = v.node;
         thread = record { place = next.place; token = v.token; holding = v.holding };
         answer = next.answer;
-        woken = Nobody;
+        woken = None;
       }) =
       stays_obeys next nobody none no_yes no_done in
       record {
@@ -219,10 +212,10 @@ module _ (v : View) where
       → is_yes next.answer ≡ false
       → is_done next.answer ≡ false
       → All (Obeys v p) (stays v next)) where
-    try_read_judged_lem : (blocking : Bool) (r : ReadLocked) → All (Obeys v p) (try_read_by v blocking v.word r)
-    try_read_judged_lem blocking (ReadTo to) = stay (at (At.TryReadCas blocking v.word)) refl refl
-    try_read_judged_lem true ReadRefused = stay (at (At.ContendLoad false 0)) refl refl
-    try_read_judged_lem false ReadRefused = stay (end No) refl refl
+    try_read_judged_lem : (blocking : Bool) (r : Option Word) → All (Obeys v p) (try_read_by v blocking v.word r)
+    try_read_judged_lem blocking (Some to) = stay (at (At.TryReadCas blocking v.word)) refl refl
+    try_read_judged_lem true None = stay (at (At.ContendLoad false 0)) refl refl
+    try_read_judged_lem false None = stay (end No) refl refl
 
   try_read_load : (blocking : Bool) → All (Obeys v (At.TryReadLoad blocking)) (try_read_load_of v blocking)
   unfolding access_of lock_effect
@@ -243,7 +236,7 @@ module _ (v : View) where
 
   -- a granted reader's word is above the one seen, so it changed
   pub read_granted : (blocking : Bool) (seen to : Word)
-      → read_lock_of seen ≡ ReadTo to
+      → read_lock_of seen ≡ Some to
       → agrees_of v seen ≡ true
       → (s : _)
       → lock_effect (At.TryReadCas blocking seen) v.holding (not (eqb to.0 v.word.0)) s ≡ grants_read
@@ -253,9 +246,9 @@ module _ (v : View) where
       (other_word to.0 v.word.0 (λ q. omega (arith, read_lock_more seen to e, agrees_word v seen a, q)))
 
   try_read_granted : (blocking : Bool) (seen to : Word)
-      → read_lock_of seen ≡ ReadTo to
+      → read_lock_of seen ≡ Some to
       → agrees_of v seen ≡ true
-      → All (Obeys v (At.TryReadCas blocking seen)) (try_read_cas_by v blocking (ReadTo to))
+      → All (Obeys v (At.TryReadCas blocking seen)) (try_read_cas_by v blocking (Some to))
   unfolding access_of tries acquires
   try_read_granted true seen to e a =
       writes_obeys v (At.TryReadCas true seen) to Read (end Done) grants_read (read_granted true seen to e a _)
@@ -264,12 +257,12 @@ module _ (v : View) where
       writes_obeys v (At.TryReadCas false seen) to Read (end Yes) grants_read (read_granted false seen to e a _)
       tt refl refl refl tt (no_fail seen to a)
 
-  try_read_compared : (blocking : Bool) (seen : Word) (r : ReadLocked)
+  try_read_compared : (blocking : Bool) (seen : Word) (r : Option Word)
       → read_lock_of seen ≡ r
       → agrees_of v seen ≡ true
       → All (Obeys v (At.TryReadCas blocking seen)) (try_read_cas_by v blocking r)
-  try_read_compared blocking seen (ReadTo to) e a = try_read_granted blocking seen to e a
-  try_read_compared blocking seen ReadRefused e a = try_read_failed blocking seen
+  try_read_compared blocking seen (Some to) e a = try_read_granted blocking seen to e a
+  try_read_compared blocking seen None e a = try_read_failed blocking seen
 
   try_read_cas : (blocking : Bool) (seen : Word)
       → All (Obeys v (At.TryReadCas blocking seen)) (try_read_cas_of v blocking seen)
@@ -314,7 +307,7 @@ module _ (v : View) where
 
   -- judging the word while contending, at any of the three places that do it
   module _ (p : Place) (writer : Bool) (reloads : ℕ) (f : fills p ≡ true)
-      (nobody : woken_by (access_of v.me p).kind (access_of v.me p).location ≡ Nobody)
+      (nobody : woken_by (access_of v.me p).kind (access_of v.me p).location ≡ None)
       (quiet : (s : Stand) → at_end s ≡ false → lock_effect p v.holding false s ≡ keeps) where
     fill : All (Obeys v p) (fill_of v writer reloads v.word)
     unfolding stand_of
@@ -322,11 +315,11 @@ module _ (v : View) where
         links_obeys v p (filled_of v.me writer v.word) (at (At.RegisterCas writer reloads v.word))
         (inr (f, (writer, refl))) nobody (quiet elsewhere refl) refl refl
 
-    contend_by_lem : (r : Permitted) → All (Obeys v p) (contend_by v writer reloads v.word r)
+    contend_by_lem : (r : Option Word) → All (Obeys v p) (contend_by v writer reloads v.word r)
     unfolding stand_of
-    contend_by_lem (PermitTo to) =
+    contend_by_lem (Some to) =
         stays_obeys v p (at (At.ContendCas writer reloads v.word)) nobody (quiet elsewhere refl) refl refl
-    contend_by_lem PermitRefused =
+    contend_by_lem None =
         pick_both (All (Obeys v p))
         (queued v.word)
         (fill_of v writer reloads v.word)
@@ -355,7 +348,7 @@ module _ (v : View) where
 
   contend_granted : (writer : Bool) (reloads : ℕ) (seen to : Word)
       → agrees_of v seen ≡ true
-      → All (Obeys v (At.ContendCas writer reloads seen)) (contend_cas_by v writer reloads (PermitTo to))
+      → All (Obeys v (At.ContendCas writer reloads seen)) (contend_cas_by v writer reloads (Some to))
   unfolding access_of lock_effect tries acquires stand_of
   contend_granted true reloads seen to a =
       writes_obeys v (At.ContendCas true reloads seen) to Write (end Done) grants_write refl tt refl refl refl refl
@@ -364,11 +357,11 @@ module _ (v : View) where
       writes_obeys v (At.ContendCas false reloads seen) to Read (end Done) grants_read refl tt refl refl refl refl
       (no_fail seen to a)
 
-  contend_compared : (writer : Bool) (reloads : ℕ) (seen : Word) (r : Permitted)
+  contend_compared : (writer : Bool) (reloads : ℕ) (seen : Word) (r : Option Word)
       → agrees_of v seen ≡ true
       → All (Obeys v (At.ContendCas writer reloads seen)) (contend_cas_by v writer reloads r)
-  contend_compared writer reloads seen (PermitTo to) a = contend_granted writer reloads seen to a
-  contend_compared writer reloads seen PermitRefused a = contend_failed writer reloads seen
+  contend_compared writer reloads seen (Some to) a = contend_granted writer reloads seen to a
+  contend_compared writer reloads seen None a = contend_failed writer reloads seen
 
   contend_cas : (writer : Bool) (reloads : ℕ) (seen : Word)
       → All (Obeys v (At.ContendCas writer reloads seen)) (contend_cas_of v writer reloads seen)
@@ -524,7 +517,7 @@ module _ (v : View) where
     kept_lock : (w : Word) (next : Onward)
         → lock_effect p v.holding (not (eqb w.0 v.word.0)) (stand_of next.place) ≡ keeps
         → Unless (writes_word (access_of v.me p).kind) (w ≡ v.word)
-        → woken_by (access_of v.me p).kind (access_of v.me p).location ≡ Nobody
+        → woken_by (access_of v.me p).kind (access_of v.me p).location ≡ None
         → is_yes next.answer ≡ and (tries p) false
         → Unless (not (acquires p)) (is_done next.answer ≡ false)
         → All (Obeys v p) (writes v w v.holding next)
@@ -659,7 +652,7 @@ module _ (v : View) where
       (λ e. completed who current prev (at (At.WakePrev who prev)) refl (unless_any (not (by_waiter who)) refl))
 
   read_unlock_judged_lem : (p : Place)
-      → woken_by (access_of v.me p).kind (access_of v.me p).location ≡ Nobody
+      → woken_by (access_of v.me p).kind (access_of v.me p).location ≡ None
       → ((s : Stand) → at_end s ≡ false → lock_effect p v.holding false s ≡ keeps)
       → (r : ReadUnlocked)
       → All (Obeys v p) (read_unlock_by v v.word r)
@@ -734,7 +727,7 @@ module _ (v : View) where
     subtract =
         pick_both (All (Obeys v (At.Subtract seen tail)))
         (ltb v.node.next.0 SINGLE)
-        (Refused Damaged)
+        (Err Damaged)
         (subtracts v fewer HoldsNothing (after_subtract seen (v.node.next.0 - SINGLE)))
         (λ e. tt)
         (λ e. pick_both Subtracted (eqb (v.node.next.0 - SINGLE) 0) (at (At.ReleaseCas seen)) (end Done)

@@ -4,21 +4,18 @@
 -- theorems.
 -- Not here: the statements (Statements.antt); what becomes of holdings (Grants.antt).
 -- Assumes nothing.
-use Rattle.std.specs.Prelude.{ℕ, ◌+◌, Bool, true, false, not, ◌⊎◌, ◌≡◌, refl, length}
+use Rattle.std.specs.Prelude.{ℕ, ◌+◌, Bool, true, false, not, ◌⊎◌, ◌≡◌, refl, length, Err, Ok, Option, Some}
 use Rattle.std.proofs.Common.{inl, inr, ⊎_elim, sym, ap, subst, ◌∙◌, arith, length-set}
 use Rattle.word.specs.Number.{thread}
 use Rattle.word.specs.declared.number.NodeNumber.{NodeNumber}
-use Rattle.word.specs.declared.number.Owner.{Owner}
-use Rattle.word.specs.declared.number.Owner.TheVariants.{Thread as Somebody}
 use Rattle.word.specs.declared.number.ThreadNumber.{ThreadNumber}
+use Rattle.state.specs.Answer.{Reply, accepted_with}
 use Rattle.state.specs.Machine.{Sized, blank_thread, thread_at, node_at}
 use Rattle.state.specs.Node.{blank_node}
 use Rattle.state.specs.declared.access.Kind.{Kind}
 use Rattle.state.specs.declared.access.Kind.TheVariants.{WeakCompare}
 use Rattle.state.specs.declared.access.Location.{Location}
 use Rattle.state.specs.declared.answer.Answer.{Answer}
-use Rattle.state.specs.declared.answer.Reply.{Reply}
-use Rattle.state.specs.declared.answer.Reply.TheVariants.{Accepted, Refused}
 use Rattle.state.specs.declared.machine.Machine.{Machine}
 use Rattle.state.specs.declared.machine.Thread.{Thread}
 use Rattle.state.specs.declared.node.Node.{Node}
@@ -56,8 +53,8 @@ weak_keeps k l x y e = rw e
 unless_weak : {S : Type 0} (k : Kind) → k ≡ WeakCompare → Unless (not (is_weak k)) S → S
 unless_weak {S} k e = rw e (λ x. x)
 
-module _ (m : Machine) (code : ℕ) (t : ThreadNumber) (a : Answer) (w : Owner)
-    (e : (event_of m code t).reply ≡ Accepted a w) (s : Stepping m code t (event_of m code t)) where
+module _ (m : Machine) (code : ℕ) (t : ThreadNumber) (a : Answer) (w : Option ThreadNumber)
+    (e : (event_of m code t).reply ≡ accepted_with a w) (s : Stepping m code t (event_of m code t)) where
   abbrev m' : Machine
   m' = next m code t a w e s
 
@@ -128,7 +125,7 @@ module _ (m : Machine) (code : ℕ) (t : ThreadNumber) (a : Answer) (w : Owner)
   other_thread u h =
       ⊎_elim (λ q. absurd (h q.0)) (λ q. q) (get_set m.threads t.0 u s.c.thread blank_thread)
 
-  other_token : (u : ℕ) → (u ≡ t.0 → ⊥) → (w ≡ Somebody (thread u) → ⊥)
+  other_token : (u : ℕ) → (u ≡ t.0 → ⊥) → (w ≡ Some (thread u) → ⊥)
       → Woken stored w u
       → (thread_at m' u).token ≡ (thread_at m u).token
   other_token u h nw (as_before q) =
@@ -189,7 +186,7 @@ module _ (m : Machine) (code : ℕ) (t : ThreadNumber) (b : Begun m code t (even
         tokens = λ u. ap (λ (x : Machine). (thread_at x u).token) (begun_is m code t b) ∙ begun_token m code t b u;
       }
 
-  begun_little : (w : Owner) → Little m t w (event_of m code t).machine
+  begun_little : (w : Option ThreadNumber) → Little m t w (event_of m code t).machine
   begun_little w =
       record {
         count = ap (λ (x : Machine). x.count) (begun_is m code t b);
@@ -239,12 +236,12 @@ changes_little m code t a w e = by (happened m code t a w e)
 pub stays_sized : StaysSized event_of
 stays_sized m code t z = by (event_of m code t).reply refl
   where
-    accepted : (a : Answer) (w : Owner) → (event_of m code t).reply ≡ Accepted a w
+    accepted : (a : Answer) (w : Option ThreadNumber) → (event_of m code t).reply ≡ accepted_with a w
         → Happened m code t (event_of m code t)
         → Sized (event_of m code t).machine
     accepted a w e (begun b) = begun_sized m code t b z
     accepted a w e (stepped s) = step_sized m code t a w e s z
 
     by : (r : Reply) → (event_of m code t).reply ≡ r → Sized (event_of m code t).machine
-    by (Accepted a w) e = accepted a w e (happened m code t a w e)
-    by (Refused r) e = subst Sized (sym (refused_unchanged m code t r e)) z
+    by (Ok told) e = accepted told.answer told.woken e (happened m code t told.answer told.woken e)
+    by (Err r) e = subst Sized (sym (refused_unchanged m code t r e)) z

@@ -4,14 +4,13 @@
 -- Not here: the statements (Statements.antt); that `event_of` satisfies them (Theorems.antt); equality by parts
 -- (Parts.antt).
 -- Assumes nothing.
-use Rattle.std.specs.Prelude.{ℕ, ◌+◌, Bool, true, false, not, ◌≢◌, ◌⊎◌, ◌≡◌, refl, eqb, get_or}
+use Rattle.std.specs.Prelude.{ℕ, ◌+◌, Bool, true, false, not, ◌≢◌, ◌⊎◌, ◌≡◌, refl, eqb, get_or, Err, Ok, Option, Some}
 use Rattle.std.proofs.Common.{inl, inr, sym, ap, subst, ◌∙◌, arith}
 use Rattle.word.specs.Number.{thread}
 use Rattle.word.specs.declared.flags.Word.{Word}
 use Rattle.word.specs.declared.number.NodeNumber.{NodeNumber}
-use Rattle.word.specs.declared.number.Owner.{Owner}
-use Rattle.word.specs.declared.number.Owner.TheVariants.{Thread as Somebody}
 use Rattle.word.specs.declared.number.ThreadNumber.{ThreadNumber}
+use Rattle.state.specs.Answer.{Reply, accepted_with}
 use Rattle.state.specs.Access.{access, touched_at, touched_of}
 use Rattle.state.specs.Machine.{Sized, thread_at, node_at}
 use Rattle.state.specs.Node.{blank_node}
@@ -19,8 +18,6 @@ use Rattle.state.specs.declared.access.Kind.TheVariants.{Complete}
 use Rattle.state.specs.declared.access.Location.{Location}
 use Rattle.state.specs.declared.access.Location.TheVariants.{Word as TheWord, Completed, Token}
 use Rattle.state.specs.declared.answer.Answer.{Answer}
-use Rattle.state.specs.declared.answer.Reply.{Reply}
-use Rattle.state.specs.declared.answer.Reply.TheVariants.{Accepted, Refused}
 use Rattle.state.specs.declared.machine.Machine.{Machine}
 use Rattle.state.specs.declared.place.Place.{Place}
 use Rattle.lock.specs.Begin.{is_idle}
@@ -81,8 +78,8 @@ module _ (p q : Program) (rp : Right p) (rq : Right q) (m : Machine) (code : ℕ
         (ap (λ x. held_after x (thread_at m t.0).holding) effect_same ∙ sym (rq.holding m code t z))
 
   -- both accept: what is the same of an accepted event
-  module _ (a a' : Answer) (w w' : Owner)
-      (e : (p m code t).reply ≡ Accepted a w) (f : (q m code t).reply ≡ Accepted a' w') where
+  module _ (a a' : Answer) (w w' : Option ThreadNumber)
+      (e : (p m code t).reply ≡ accepted_with a w) (f : (q m code t).reply ≡ accepted_with a' w') where
     -- the outcome, by the answer, the thread woken, the word, the place, the tokens and the nodes
     outcome_same : a ≡ a'
         → w ≡ w'
@@ -95,7 +92,7 @@ module _ (p q : Program) (rp : Right p) (rq : Right q) (m : Machine) (code : ℕ
         λ i. record { machine = machines i; reply = replies i }
       where
         replies : (p m code t).reply ≡ (q m code t).reply
-        replies = e ∙ (ap (λ x. Accepted x w) answers ∙ (ap (λ x. Accepted a' x) wakes ∙ sym f))
+        replies = e ∙ (ap (λ x. accepted_with x w) answers ∙ (ap (λ x. accepted_with a' x) wakes ∙ sym f))
 
         threads : (u : ℕ) → (u ≡ t.0) ⊎ (u ≢ t.0) → thread_at mp u ≡ thread_at mq u
         threads u (inl i) =
@@ -187,7 +184,7 @@ module _ (p q : Program) (rp : Right p) (rq : Right q) (m : Machine) (code : ℕ
               let oq : Owned x.0 w' mq = rq.woken.completing m code t a' w' x.0 z f x.1 in
               let owner : op.owner.0 + 1 ≡ oq.owner.0 + 1 =
               ap (λ (y : NodeNumber). y.0) (op.owns ∙ sym oq.owns) in
-              op.reported ∙ (ap (λ (y : ℕ). Somebody (thread y)) (omega (arith, owner)) ∙ sym oq.reported)
+              op.reported ∙ (ap (λ (y : ℕ). Some (thread y)) (omega (arith, owner)) ∙ sym oq.reported)
           by (inr k) = rp.woken.otherwise m code t a w e k ∙ sym (rq.woken.otherwise m code t a' w' f k)
 
       -- ── its nodes ──
@@ -252,10 +249,10 @@ module _ (p q : Program) (rp : Right p) (rq : Right q) (m : Machine) (code : ℕ
       -- ── its tokens ──
 
       -- who is woken has its token
-      woken_has : (event : Program) → Right event → (b : Answer) (o : Owner)
-          → (event m code t).reply ≡ Accepted b o
+      woken_has : (event : Program) → Right event → (b : Answer) (o : Option ThreadNumber)
+          → (event m code t).reply ≡ accepted_with b o
           → (u : ℕ)
-          → o ≡ Somebody (thread u)
+          → o ≡ Some (thread u)
           → (thread_at (event m code t).machine u).token ≡ true
       woken_has event r b o g u h = by sort.completes
         where
@@ -268,8 +265,8 @@ module _ (p q : Program) (rp : Right p) (rq : Right q) (m : Machine) (code : ℕ
           by (inr k) = nobody_not u (sym (r.woken.otherwise m code t b o g k) ∙ h)
 
       -- the own token, where park is not the access and nobody wakes it
-      own_kept : takes_token (access_at m t).kind ≡ false → (o : Owner) (x : Machine)
-          → o ≢ Somebody (thread t.0)
+      own_kept : takes_token (access_at m t).kind ≡ false → (o : Option ThreadNumber) (x : Machine)
+          → o ≢ Some (thread t.0)
           → TokenAfter m t o x t.0
           → (thread_at x t.0).token ≡ (thread_at m t.0).token
       own_kept tk o x nw (kept h) = h
@@ -279,7 +276,7 @@ module _ (p q : Program) (rp : Right p) (rq : Right q) (m : Machine) (code : ℕ
       token_same : (u : ℕ) → (thread_at mp u).token ≡ (thread_at mq u).token
       token_same u = by (is_thread w u) (same? u t.0)
         where
-          own : w ≢ Somebody (thread t.0)
+          own : w ≢ Some (thread t.0)
               → (l ≡ Token t) ⊎ (takes_token (access_at m t).kind ≡ false)
               → (thread_at mp t.0).token ≡ (thread_at mq t.0).token
           own nw (inl i) =
@@ -289,13 +286,13 @@ module _ (p q : Program) (rp : Right p) (rq : Right q) (m : Machine) (code : ℕ
               own_kept tk w mp nw ((rp.at_access m code t a w s e).tokens t.0) ∙
               sym (own_kept tk w' mq (λ h. nw (woken_same ∙ h)) ((rq.at_access m code t a' w' s f).tokens t.0))
 
-          by : (w ≡ Somebody (thread u)) ⊎ (w ≢ Somebody (thread u))
+          by : (w ≡ Some (thread u)) ⊎ (w ≢ Some (thread u))
               → (u ≡ t.0) ⊎ (u ≢ t.0)
               → (thread_at mp u).token ≡ (thread_at mq u).token
           by (inl h) d = woken_has p rp a w e u h ∙ sym (woken_has q rq a' w' f u (sym woken_same ∙ h))
           by (inr nw) (inl i) =
               subst (λ j. (thread_at mp j).token ≡ (thread_at mq j).token) (sym i)
-              (own (λ h. nw (h ∙ ap (λ (j : ℕ). Somebody (thread j)) (sym i))) sort.token)
+              (own (λ h. nw (h ∙ ap (λ (j : ℕ). Some (thread j)) (sym i))) sort.token)
           by (inr nw) (inr ne) =
               (rp.little m code t a w e).tokens u ne nw ∙
               sym ((rq.little m code t a' w' f).tokens u ne (λ h. nw (woken_same ∙ h)))
@@ -306,8 +303,8 @@ module _ (p q : Program) (rp : Right p) (rq : Right q) (m : Machine) (code : ℕ
   -- ── any event ──
 
   -- an accepted event begins or steps
-  known : (event : Program) → Right event → (b : Answer) (o : Owner)
-      → (event m code t).reply ≡ Accepted b o
+  known : (event : Program) → Right event → (b : Answer) (o : Option ThreadNumber)
+      → (event m code t).reply ≡ accepted_with b o
       → or (begins code) (steps code) ≡ true
   known event r b o g = by ((none_exactly (refusal_rows m code t) refl).0 (sym (r.table m code t) ∙ ap number_given g))
     where
@@ -320,9 +317,9 @@ module _ (p q : Program) (rp : Right p) (rq : Right q) (m : Machine) (code : ℕ
   same_outcome : p m code t ≡ q m code t
   same_outcome = by (p m code t).reply (q m code t).reply refl refl
     where
-      accepted : (a a' : Answer) (w w' : Owner)
-          → (p m code t).reply ≡ Accepted a w
-          → (q m code t).reply ≡ Accepted a' w'
+      accepted : (a a' : Answer) (w w' : Option ThreadNumber)
+          → (p m code t).reply ≡ accepted_with a w
+          → (q m code t).reply ≡ accepted_with a' w'
           → (b : Bool)
           → begins code ≡ b
           → p m code t ≡ q m code t
@@ -331,15 +328,15 @@ module _ (p q : Program) (rp : Right p) (rq : Right q) (m : Machine) (code : ℕ
           step_same a a' w w' e f (subst (λ x. or x (steps code) ≡ true) g (known p rp a w e))
 
       by : (r r' : Reply) → (p m code t).reply ≡ r → (q m code t).reply ≡ r' → p m code t ≡ q m code t
-      by (Accepted a w) (Accepted a' w') e f = accepted a a' w w' e f (begins code) refl
-      by (Accepted a w) (Refused r) e f =
-          let same : (p m code t).reply ≡ Refused r = reply_number (p m code t).reply r (numbers ∙ ap number_given f) in
-          let bad : ◌≡◌ {A = ℕ} 0 1 = cc in absurd (omega arith)
-      by (Refused r) (Accepted a w) e f =
-          let same : (q m code t).reply ≡ Refused r =
+      by (Ok told) (Ok told') e f = accepted told.answer told'.answer told.woken told'.woken e f (begins code) refl
+      by (Ok told) (Err r) e f =
+          let same : (p m code t).reply ≡ Err r = reply_number (p m code t).reply r (numbers ∙ ap number_given f) in
+          absurd (cc)
+      by (Err r) (Ok told) e f =
+          let same : (q m code t).reply ≡ Err r =
           reply_number (q m code t).reply r (sym numbers ∙ ap number_given e) in
-          let bad : ◌≡◌ {A = ℕ} 0 1 = cc in absurd (omega arith)
-      by (Refused r) (Refused r') e f =
+          absurd (cc)
+      by (Err r) (Err r') e f =
           let machines : mp ≡ mq = rp.unchanged m code t r e ∙ sym (rq.unchanged m code t r' f) in
           let replies : (p m code t).reply ≡ (q m code t).reply =
           e ∙ sym (reply_number (q m code t).reply r (sym numbers ∙ ap number_given e)) in

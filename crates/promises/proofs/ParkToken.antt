@@ -2,17 +2,15 @@
 -- it; what its rule gives; the token after.
 -- Not here: the statement (Statements.antt); the tokens of other threads (OneAccess.antt, WokenOwner.antt).
 -- Assumes nothing.
-use Rattle.std.specs.Prelude.{ℕ, Bool, true, false, ◌≡◌, refl, eqb}
+use Rattle.std.specs.Prelude.{ℕ, Bool, true, false, ◌≡◌, refl, eqb, Option, None}
 use Rattle.std.proofs.Common.{sym, ap, subst, ◌∙◌}
 use Rattle.word.specs.Base.{pick}
-use Rattle.word.specs.declared.number.Owner.{Owner}
-use Rattle.word.specs.declared.number.Owner.TheVariants.{Nobody}
 use Rattle.word.specs.declared.number.ThreadNumber.{ThreadNumber}
+use Rattle.state.specs.Answer.{accepted_with}
 use Rattle.state.specs.Access.{access_of}
 use Rattle.state.specs.Machine.{Sized, thread_at}
 use Rattle.state.specs.declared.access.Kind.TheVariants.{Park as Parking}
 use Rattle.state.specs.declared.answer.Answer.{Answer}
-use Rattle.state.specs.declared.answer.Reply.TheVariants.{Accepted}
 use Rattle.state.specs.declared.machine.Machine.{Machine}
 use Rattle.state.specs.declared.machine.Thread.{Thread}
 use Rattle.state.specs.declared.place.Place.{Place}
@@ -35,7 +33,7 @@ use Rattle.promises.specs.Statements.{ParkTakesTheToken}
 
 -- at park the token is kept by a failure, else cleared, and nobody is woken
 abbrev Parked : View → Change → Type 0
-Parked v c = (c.thread.token ≡ pick v.fails v.token false) × (c.woken ≡ Nobody)
+Parked v c = (c.thread.token ≡ pick v.fails v.token false) × (c.woken ≡ None)
 
 parked : (v : View) (writer : Bool) → All (Parked v) (advance_of v (At.Park writer))
 unfolding advance_of
@@ -77,10 +75,10 @@ park_only t (At.DowngradeSlowCas _) e = never e
 
 -- ── the token after ──
 
-token_after_lem : (m : Machine) (code : ℕ) (t : ThreadNumber) (a : Answer) (w : Owner)
+token_after_lem : (m : Machine) (code : ℕ) (t : ThreadNumber) (a : Answer) (w : Option ThreadNumber)
     → Sized m
     → (access_at m t).kind ≡ Parking
-    → (event_of m code t).reply ≡ Accepted a w
+    → (event_of m code t).reply ≡ accepted_with a w
     → steps code ≡ true
     → (thread_at (event_of m code t).machine t.0).token ≡ pick (eqb code 17) (thread_at m t.0).token false
 token_after_lem m code t a w z parks e is_step =
@@ -90,9 +88,9 @@ token_after_lem m code t a w z parks e is_step =
     let facts : Parked v s.c =
     by_rule m code t a w e s (Parked v)
     (subst (λ p. All (Parked v) (advance_of v p)) (sym only.1) (parked v only.0)) in
-    let nobody : w ≡ Nobody = sym (woke m code t a w e s) ∙ facts.1 in
+    let nobody : w ≡ None = sym (woke m code t a w e s) ∙ facts.1 in
     ap (λ (x : Machine). (thread_at x t.0).token) (landed m code t a w e s) ∙
-    (ap (λ (o : Owner). (thread_at (woken_of (laid m code t a w e s) o) t.0).token) nobody ∙
+    (ap (λ (o : Option ThreadNumber). (thread_at (woken_of (laid m code t a w e s) o) t.0).token) nobody ∙
     (ap (λ (x : Thread). x.token) (own_thread m code t a w e s z) ∙
     (facts.0 ∙ ap (λ f. pick f (thread_at m t.0).token false) (fails_17 code s.fails s.codes))))
 

@@ -2,40 +2,33 @@
 -- and a refused event changes nothing.
 -- Assumes nothing.
 use Rattle.std.specs.Prelude.{ℕ, zero, suc, ◌≤◌, ◌<◌, ◌+◌, Bool, true, false, not, [], ◌∷◌, ◌↔◌, ◌≡◌, refl, leb, ltb}
-use Rattle.std.specs.Prelude.{eqb}
+use Rattle.std.specs.Prelude.{Option, Some, None}
+use Rattle.std.specs.Prelude.{eqb, Err, Ok}
 use Rattle.std.proofs.Common.{sym, ap, ◌∙◌, arith, leb-true, leb-false, eqb-true}
 use Rattle.word.specs.Base.{pick}
 use Rattle.word.specs.declared.number.ThreadNumber.{ThreadNumber}
-use Rattle.word.specs.declared.number.Slot.{Slot}
-use Rattle.word.specs.declared.number.Slot.TheVariants.{Outside, At}
-use Rattle.word.specs.declared.number.Owner.{Owner}
+use Rattle.state.specs.View.{Stepped}
 use Rattle.state.specs.Access.{access_of}
-use Rattle.state.specs.Answer.{refusal_number}
+use Rattle.state.specs.Answer.{refusal_number, Reply, Verdict, accepted_with}
 use Rattle.state.specs.Holding.{reads_of, writes_of}
 use Rattle.state.specs.Machine.{good_count, thread_at, refused_of}
 use Rattle.state.specs.declared.answer.Answer.{Answer}
 use Rattle.state.specs.declared.answer.Refusal.{Refusal}
 use Rattle.state.specs.declared.answer.Refusal.TheVariants.{UnknownCode, NoThread, InsideCall, WrongHolding}
 use Rattle.state.specs.declared.answer.Refusal.TheVariants.{NotInCall, NoToken, CannotFail, Damaged}
-use Rattle.state.specs.declared.answer.Reply.{Reply}
-use Rattle.state.specs.declared.answer.Reply.TheVariants.{Accepted, Refused}
-use Rattle.state.specs.declared.answer.Verdict.{Verdict}
-use Rattle.state.specs.declared.answer.Verdict.TheVariants.{Fine, Refused as Denied}
 use Rattle.state.specs.declared.holding.Holding.{Holding}
 use Rattle.state.specs.declared.holding.Holding.TheVariants.{Nothing, Read, Write}
 use Rattle.state.specs.declared.machine.Machine.{Machine}
 use Rattle.state.specs.declared.machine.Outcome.{Outcome}
 use Rattle.state.specs.declared.place.Place.{Place}
 use Rattle.state.specs.declared.place.Place.TheVariants as At
-use Rattle.state.specs.declared.view.Stepped.{Stepped}
-use Rattle.state.specs.declared.view.Stepped.TheVariants.{To, Refused as StepRefused}
 use Rattle.lock.specs.Begin.{holds_nothing, may_begin, is_idle, begin_of}
 use Rattle.lock.specs.Code.{call_of, code_of}
 use Rattle.lock.specs.Event.{stepped_of, event_by, event_of}
 use Rattle.lock.specs.Landed.{landed_of}
 use Rattle.lock.specs.Step.{touching_by, step_by, step_of}
 use Rattle.lock.specs.declared.code.Code.{Code}
-use Rattle.lock.specs.declared.code.Code.TheVariants.{Begin, Step, Fail, Unknown}
+use Rattle.lock.specs.declared.code.Code.TheVariants.{Begin, Step, Fail}
 use Rattle.promises.specs.Refusals.{number_given, row, first_of, idle, wrong_holding, step_rows, refusal_rows}
 use Rattle.promises.specs.RefusalFirst.{First, NoneGiven, first_exactly, none_exactly}
 use Rattle.promises.proofs.RefusalSteps.{step_table}
@@ -185,47 +178,47 @@ refusal_table m code t = by_code m code t (code_is code) refl refl refl
 -- an outcome that refuses hands the machine back as it was
 data Settled (m : Machine) : Outcome → Type 0 where
   refuses : (r : Refusal) → Settled m (refused_of m r)
-  accepts : (after : Machine) (a : Answer) (woken : Owner)
-      → Settled m (record { machine = after; reply = Accepted a woken })
+  accepts : (after : Machine) (a : Answer) (woken : Option ThreadNumber)
+      → Settled m (record { machine = after; reply = accepted_with a woken })
 
 settled_both : (m : Machine) (b : Bool) (x y : Outcome) → Settled m x → Settled m y → Settled m (pick b x y)
 settled_both m true x y p q = p
 settled_both m false x y p q = q
 
 landed_settled : (m : Machine) (i k : ℕ) (s : Stepped) → Settled m (landed_of m i k s)
-landed_settled m i k (To c) = accepts _ _ _
-landed_settled m i k (StepRefused r) = refuses r
+landed_settled m i k (Ok c) = accepts _ _ _
+landed_settled m i k (Err r) = refuses r
 
-touching_settled : (m : Machine) (t : ThreadNumber) (fails : Bool) (p : Place) (s : Slot)
+touching_settled : (m : Machine) (t : ThreadNumber) (fails : Bool) (p : Place) (s : Option ℕ)
     → Settled m (touching_by m t fails p s)
-touching_settled m t fails p Outside = refuses Damaged
-touching_settled m t fails p (At k) = search landed_settled
+touching_settled m t fails p None = refuses Damaged
+touching_settled m t fails p (Some k) = search landed_settled
 
 step_settled : (m : Machine) (t : ThreadNumber) (fails : Bool) (p : Place) (v : Verdict)
     → Settled m (step_by m t fails p v)
-step_settled m t fails p (Denied r) = refuses r
-step_settled m t fails p Fine = search touching_settled
+step_settled m t fails p (Err r) = refuses r
+step_settled m t fails p (Ok _) = search touching_settled
 
 ruleset settling = (refuses, accepts, settled_both, step_settled)
 
-by_code_settled : (m : Machine) (c : Code) (t : ThreadNumber) → Settled m (event_by m c t)
+by_code_settled : (m : Machine) (c : Option Code) (t : ThreadNumber) → Settled m (event_by m c t)
 unfolding step_of
-by_code_settled m Unknown t = search settling
-by_code_settled m (Begin call) t = search settling
-by_code_settled m Step t = search settling
-by_code_settled m Fail t = search settling
+by_code_settled m None t = search settling
+by_code_settled m (Some (Begin call)) t = search settling
+by_code_settled m (Some Step) t = search settling
+by_code_settled m (Some Fail) t = search settling
 
 event_settled : (m : Machine) (code : ℕ) (t : ThreadNumber) → Settled m (event_of m code t)
 unfolding event_of
 event_settled m code t = settled_both m (good_count m.count) _ _ (by_code_settled m (code_of code) t) (refuses Damaged)
 
-unchanged : {m : Machine} {o : Outcome} → Settled m o → (r : Refusal) → o.reply ≡ Refused r → o.machine ≡ m
+unchanged : {m : Machine} {o : Outcome} → Settled m o → (r : Refusal) → o.reply ≡ Err r → o.machine ≡ m
 unchanged (refuses _) r e = refl
-unchanged (accepts after a woken) r e = let bad : ◌≡◌ {A = ℕ} 0 1 = cc in absurd (omega arith)
+unchanged (accepts after a woken) r e = absurd (cc)
 
 -- a refused event leaves the machine unchanged
 pub refused_unchanged : (m : Machine) (code : ℕ) (t : ThreadNumber) (r : Refusal)
-    → (event_of m code t).reply ≡ Refused r
+    → (event_of m code t).reply ≡ Err r
     → (event_of m code t).machine ≡ m
 refused_unchanged m code t r e = unchanged (event_settled m code t) r e
 
@@ -252,13 +245,13 @@ number_named CannotFail = (refl, omega arith)
 number_named Damaged = (refl, omega arith)
 
 -- the number tells the refusal
-pub reply_number : (y : Reply) (r : Refusal) → number_given y ≡ refusal_number r → y ≡ Refused r
-reply_number (Accepted a woken) r e = absurd (omega (arith, (number_named r).1))
-reply_number (Refused s) r e = ap Refused (sym (number_named s).0 ∙ ap named e ∙ (number_named r).0)
+pub reply_number : (y : Reply) (r : Refusal) → number_given y ≡ refusal_number r → y ≡ Err r
+reply_number (Ok told) r e = absurd (omega (arith, (number_named r).1))
+reply_number (Err s) r e = ap Err (sym (number_named s).0 ∙ ap named e ∙ (number_named r).0)
 
 -- an event is refused so exactly where a row of that number is the first of the table whose condition holds
 pub refused_exactly : (m : Machine) (code : ℕ) (t : ThreadNumber) (r : Refusal)
-    → ((event_of m code t).reply ≡ Refused r) ↔ First (refusal_number r) (refusal_rows m code t)
+    → ((event_of m code t).reply ≡ Err r) ↔ First (refusal_number r) (refusal_rows m code t)
 refused_exactly m code t r =
     let exactly = first_exactly (refusal_number r) (refusal_rows m code t) (number_named r).1 in (
       λ e. exactly.0 (sym (refusal_table m code t) ∙ ap number_given e),

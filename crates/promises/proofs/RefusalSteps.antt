@@ -1,6 +1,7 @@
 -- The refusal table at a step: which places' rules refuse, and that 5, 6, 7 and 8 are given as the table says.
 -- Assumes nothing.
-use Rattle.std.specs.Prelude.{ℕ, ◌+◌, ◌-◌, ◌<◌, Bool, true, false, not, [], ◌∷◌, ◌≡◌, refl, T, ltb, eqb}
+use Rattle.std.specs.Prelude.{ℕ, ◌+◌, ◌-◌, ◌<◌, Bool, true, false, not, [], ◌∷◌, ◌≡◌, refl, T, ltb, eqb, Err, Ok}
+use Rattle.std.specs.Prelude.{Option, Some, None}
 use Rattle.std.proofs.Common.{sym, ap, subst, ◌∙◌, arith, eqb-true, le-ltb}
 use Rattle.word.specs.Base.{pick}
 use Rattle.word.specs.Cases.{pick_both, pick_second}
@@ -9,15 +10,12 @@ use Rattle.word.specs.Number.{node_of}
 use Rattle.word.specs.Rules.{read_lock_of, read_unlock_of}
 use Rattle.word.specs.declared.flags.Word.{Word}
 use Rattle.word.specs.declared.number.NodeNumber.{NodeNumber}
-use Rattle.word.specs.declared.number.Slot.TheVariants.{Outside, At}
 use Rattle.word.specs.declared.number.ThreadNumber.{ThreadNumber}
-use Rattle.word.specs.declared.rules.ReadLocked.{ReadLocked}
-use Rattle.word.specs.declared.rules.ReadLocked.TheVariants.{To as ReadTo, Refused as ReadRefused}
 use Rattle.word.specs.declared.rules.ReadUnlocked.{ReadUnlocked}
 use Rattle.word.specs.declared.rules.ReadUnlocked.TheVariants.{To as UnlockTo, Contended, Refused as UnlockRefused}
 use Rattle.state.specs.Access.{access_of, touched_at, touched_of}
 use Rattle.state.specs.Machine.{thread_at, node_at}
-use Rattle.state.specs.View.{agrees_of}
+use Rattle.state.specs.View.{agrees_of, Stepped}
 use Rattle.state.specs.declared.access.Kind.{Kind}
 use Rattle.state.specs.declared.access.Kind.TheVariants.{Nothing, Load, Store, WeakCompare, StrongCompare, FetchOr}
 use Rattle.state.specs.declared.access.Kind.TheVariants.{Subtract as Subtracting, Complete, Park as Parking}
@@ -25,7 +23,6 @@ use Rattle.state.specs.declared.access.Location.{Location}
 use Rattle.state.specs.declared.access.Location.TheVariants.{Nowhere, Word as TheWord, Next}
 use Rattle.state.specs.declared.access.Location.TheVariants.{Prev, Tail, Completed, Token}
 use Rattle.state.specs.declared.answer.Refusal.TheVariants.{Damaged}
-use Rattle.state.specs.declared.answer.Verdict.TheVariants.{Fine}
 use Rattle.state.specs.declared.machine.Machine.{Machine}
 use Rattle.state.specs.declared.node.Node.{Node}
 use Rattle.state.specs.declared.place.Place.{Place}
@@ -35,13 +32,9 @@ use Rattle.state.specs.declared.place.Walk.TheVariants.{Queue, ReadUnlock, Downg
 use Rattle.state.specs.declared.place.Who.{Who}
 use Rattle.state.specs.declared.view.Change.{Change}
 use Rattle.state.specs.declared.view.Mark.TheVariants.{Reader, Writer}
-use Rattle.state.specs.declared.view.Stepped.{Stepped}
-use Rattle.state.specs.declared.view.Stepped.TheVariants.{To, Refused}
 use Rattle.state.specs.declared.view.View.{View}
 use Rattle.acquire.specs.LockContended.{contend_by, contend_cas_by, permitted_of}
 use Rattle.acquire.specs.TryRead.{try_read_by, try_read_cas_by}
-use Rattle.acquire.specs.declared.lock_contended.Permitted.{Permitted}
-use Rattle.acquire.specs.declared.lock_contended.Permitted.TheVariants.{To as PermittedTo, Refused as NotPermitted}
 use Rattle.unlock.specs.AfterWalk.{marked_by, walked_of}
 use Rattle.release.specs.ReadUnlock.{read_unlock_by, read_unlock_cas_by, read_unlock_judged, read_unlock_cas_of}
 use Rattle.lock.specs.Advance.{advance_of}
@@ -55,8 +48,8 @@ use Rattle.promises.specs.Refusals.{then_touched, below_one, subtracts_below, da
 
 -- a rule refuses, by 8, where the flag holds; else it goes on
 data Gives : Stepped → Bool → Type 0 where
-  goes : (c : Change) → Gives (To c) false
-  refuses : Gives (Refused Damaged) true
+  goes : (c : Change) → Gives (Ok c) false
+  refuses : Gives (Err Damaged) true
 
 -- a choice between two rules of which both refuse or both go on
 gives_both : (b flag : Bool) (x y : Stepped) → Gives x flag → Gives y flag → Gives (pick b x y) flag
@@ -64,32 +57,32 @@ gives_both true flag x y p q = p
 gives_both false flag x y p q = q
 
 -- a test that refuses
-gives_test : (b : Bool) (c : Change) → Gives (pick b (Refused Damaged) (To c)) b
+gives_test : (b : Bool) (c : Change) → Gives (pick b (Err Damaged) (Ok c)) b
 gives_test true c = refuses
 gives_test false c = goes c
 
 -- what a rule that goes on changes is no matter
-gives_other : {c : Change} {flag : Bool} (d : Change) → Gives (To c) flag → Gives (To d) flag
+gives_other : {c : Change} {flag : Bool} (d : Change) → Gives (Ok c) flag → Gives (Ok d) flag
 gives_other d (goes c) = goes d
 
-try_read_goes : (v : View) (blocking : Bool) (seen : Word) (r : ReadLocked)
+try_read_goes : (v : View) (blocking : Bool) (seen : Word) (r : Option Word)
     → Gives (try_read_by v blocking seen r) false
-try_read_goes v blocking seen (ReadTo to) = goes _
-try_read_goes v blocking seen ReadRefused = goes _
+try_read_goes v blocking seen (Some to) = goes _
+try_read_goes v blocking seen None = goes _
 
-try_read_cas_goes : (v : View) (blocking : Bool) (r : ReadLocked) → Gives (try_read_cas_by v blocking r) false
-try_read_cas_goes v blocking (ReadTo to) = goes _
-try_read_cas_goes v blocking ReadRefused = try_read_goes v blocking v.word (read_lock_of v.word)
+try_read_cas_goes : (v : View) (blocking : Bool) (r : Option Word) → Gives (try_read_cas_by v blocking r) false
+try_read_cas_goes v blocking (Some to) = goes _
+try_read_cas_goes v blocking None = try_read_goes v blocking v.word (read_lock_of v.word)
 
-contend_goes : (v : View) (writer : Bool) (reloads : ℕ) (seen : Word) (r : Permitted)
+contend_goes : (v : View) (writer : Bool) (reloads : ℕ) (seen : Word) (r : Option Word)
     → Gives (contend_by v writer reloads seen r) false
-contend_goes v writer reloads seen (PermittedTo to) = goes _
-contend_goes v writer reloads seen NotPermitted = search (goes, gives_both)
+contend_goes v writer reloads seen (Some to) = goes _
+contend_goes v writer reloads seen None = search (goes, gives_both)
 
-contend_cas_goes : (v : View) (writer : Bool) (reloads : ℕ) (r : Permitted)
+contend_cas_goes : (v : View) (writer : Bool) (reloads : ℕ) (r : Option Word)
     → Gives (contend_cas_by v writer reloads r) false
-contend_cas_goes v writer reloads (PermittedTo to) = goes _
-contend_cas_goes v writer reloads NotPermitted = contend_goes v writer reloads v.word (permitted_of writer v.word)
+contend_cas_goes v writer reloads (Some to) = goes _
+contend_cas_goes v writer reloads None = contend_goes v writer reloads v.word (permitted_of writer v.word)
 
 ruleset going = (goes, gives_both, try_read_goes, try_read_cas_goes, contend_goes, contend_cas_goes)
 
@@ -103,7 +96,7 @@ marked_gives m v n who seen tail = by_slot (ltb tail.0 1) (ltb m.count tail.0)
     by_mark false = goes _
 
     by_slot : (low high : Bool)
-        → Gives (marked_by v n who seen tail (mark_by m (pick low Outside (pick high Outside (At (tail.0 - 1))))))
+        → Gives (marked_by v n who seen tail (mark_by m (pick low None (pick high None (Some (tail.0 - 1))))))
         (or low high)
     by_slot true high = refuses
     by_slot false true = refuses
@@ -237,7 +230,7 @@ or_eight false b = refl
 -- a step past refusals 5, 6 and 7 is refused, by 8, exactly where it would do damage
 fine_number : (m : Machine) (t : ThreadNumber) → t.0 < m.count → (fails : Bool) (p : Place)
     → idle (access_of t p).kind ≡ false
-    → number_given (step_by m t fails p Fine).reply ≡ eight_if (damaged m t p)
+    → number_given (step_by m t fails p (Ok tt)).reply ≡ eight_if (damaged m t p)
 fine_number m t h fails p busy =
     by_slot (ltb n.0 1) (ltb m.count n.0)
     ∙ rw (touched_outside m.count t h (access_of t p).location, or_eight)
@@ -249,7 +242,7 @@ fine_number m t h fails p busy =
     rest = or (any_outside m.count (then_touched p)) (subtracts_below m p)
 
     by_slot : (low high : Bool)
-        → number_given (touching_by m t fails p (pick low Outside (pick high Outside (At (n.0 - 1))))).reply
+        → number_given (touching_by m t fails p (pick low None (pick high None (Some (n.0 - 1))))).reply
         ≡ pick (or low high) 8 (eight_if rest)
     by_slot true high = refl
     by_slot false true = refl
@@ -259,7 +252,7 @@ fine_number m t h fails p busy =
 
 -- 5, 6, 7, then 8, by the kind of access
 halted_number : (m : Machine) (t : ThreadNumber) (p : Place) (k : Kind) (token fails damage : Bool)
-    → (idle k ≡ false → number_given (step_by m t fails p Fine).reply ≡ eight_if damage)
+    → (idle k ≡ false → number_given (step_by m t fails p (Ok tt)).reply ≡ eight_if damage)
     → number_given (step_by m t fails p (halted_of k token fails)).reply
     ≡ first_of
     (row 5 (idle k)

@@ -4,7 +4,7 @@
 -- what the compare found.
 -- Not here: the rules (acquire, walk, unlock, release); what they obey (Obeys.antt).
 -- Assumes nothing.
-use Rattle.std.specs.Prelude.{ℕ, ◌+◌, ◌-◌, Bool, true, false, ◌≡◌, refl, eqb, ltb}
+use Rattle.std.specs.Prelude.{ℕ, ◌+◌, ◌-◌, Bool, true, false, ◌≡◌, refl, eqb, ltb, Option, Some, None}
 use Rattle.word.specs.Cases.{pick_both}
 use Rattle.word.specs.Flags.{word, LOCKED, SINGLE, clear_queue_locked, queued, queue_locked, locked, downgraded}
 use Rattle.word.specs.Flags.{set_locked}
@@ -12,8 +12,6 @@ use Rattle.word.specs.Number.{is_none, none, owner_of}
 use Rattle.word.specs.Rules.{registered_of, taken_of, read_lock_of, read_unlock_of}
 use Rattle.word.specs.declared.flags.Word.{Word}
 use Rattle.word.specs.declared.number.NodeNumber.{NodeNumber}
-use Rattle.word.specs.declared.rules.ReadLocked.{ReadLocked}
-use Rattle.word.specs.declared.rules.ReadLocked.TheVariants.{To as ReadTo, Refused as ReadRefused}
 use Rattle.word.specs.declared.rules.ReadUnlocked.{ReadUnlocked}
 use Rattle.word.specs.declared.rules.ReadUnlocked.TheVariants.{To as UnlockTo, Contended, Refused as UnlockRefused}
 use Rattle.state.specs.Holding.{granted_read, granted_write, released_read, released_write, downgraded_to}
@@ -41,8 +39,6 @@ use Rattle.acquire.specs.LockContended.{register_cas_of, spin_count}
 use Rattle.acquire.specs.TryRead.{try_read_refused, try_read_by, try_read_judged, try_read_cas_by, try_read_cas_of}
 use Rattle.acquire.specs.TryWrite.{try_write_refused, try_write_or_of}
 use Rattle.acquire.specs.Wait.{completed_load_of, park_of}
-use Rattle.acquire.specs.declared.lock_contended.Permitted.{Permitted}
-use Rattle.acquire.specs.declared.lock_contended.Permitted.TheVariants.{To as PermitTo, Refused as PermitRefused}
 use Rattle.unlock.specs.AfterWalk.{marked_by, tail_found}
 use Rattle.unlock.specs.UnlockQueue.{walk_again, queue_cas_of, split_prev_of, split_cas_of, take_cas_of}
 use Rattle.release.specs.Downgrade.{downgrade_cas_of, downgraded_word, downgrade_slow_cas_of}
@@ -73,21 +69,21 @@ module _ (v : View) (P : Change → Type 0) where
       → All P (try_read_judged v blocking v.word)
   try_read_ends blocking compares refused = by (read_lock_of v.word)
     where
-      by : (r : ReadLocked) → All P (try_read_by v blocking v.word r)
-      by (ReadTo to) = compares
-      by ReadRefused = refused
+      by : (r : Option Word) → All P (try_read_by v blocking v.word r)
+      by (Some to) = compares
+      by None = refused
 
   pub try_read_cas_ends : (blocking : Bool) (seen : Word)
-      → ((to : Word) → read_lock_of seen ≡ ReadTo to → Agreed seen
+      → ((to : Word) → read_lock_of seen ≡ Some to → Agreed seen
       → Wrote to (granted_read v.holding) (granted blocking))
       → All P (try_read_judged v blocking v.word)
       → All P (try_read_cas_of v blocking seen)
   try_read_cas_ends blocking seen grants again =
       pick_both (All P) (agrees_of v seen) _ _ (λ a. by (read_lock_of seen) refl a) (λ _. again)
     where
-      by : (r : ReadLocked) → read_lock_of seen ≡ r → Agreed seen → All P (try_read_cas_by v blocking r)
-      by (ReadTo to) e a = grants to e a
-      by ReadRefused e a = again
+      by : (r : Option Word) → read_lock_of seen ≡ r → Agreed seen → All P (try_read_cas_by v blocking r)
+      by (Some to) e a = grants to e a
+      by None e a = again
 
   pub try_write_ends : (blocking : Bool)
       → (locked v.word ≡ true → All P (stays v (try_write_refused blocking)))
@@ -104,9 +100,9 @@ module _ (v : View) (P : Change → Type 0) where
       → All P (contend_judged v writer reloads v.word)
   contend_ends writer reloads compares reload fill = by (permitted_of writer v.word)
     where
-      by : (r : Permitted) → All P (contend_by v writer reloads v.word r)
-      by (PermitTo to) = compares
-      by PermitRefused =
+      by : (r : Option Word) → All P (contend_by v writer reloads v.word r)
+      by (Some to) = compares
+      by None =
           pick_both (All P)
           (queued v.word)
           _
@@ -115,16 +111,16 @@ module _ (v : View) (P : Change → Type 0) where
           (λ _. pick_both (All P) (ltb reloads spin_count) _ _ (λ _. reload) (λ _. fill))
 
   pub contend_cas_ends : (writer : Bool) (reloads : ℕ) (seen : Word)
-      → ((to : Word) → permitted_of writer seen ≡ PermitTo to → Agreed seen
+      → ((to : Word) → permitted_of writer seen ≡ Some to → Agreed seen
       → Wrote to (granted_of writer v.holding) (end Done))
       → All P (contend_judged v writer reloads v.word)
       → All P (contend_cas_of v writer reloads seen)
   contend_cas_ends writer reloads seen grants again =
       pick_both (All P) (agrees_of v seen) _ _ (λ a. by (permitted_of writer seen) refl a) (λ _. again)
     where
-      by : (r : Permitted) → permitted_of writer seen ≡ r → Agreed seen → All P (contend_cas_by v writer reloads r)
-      by (PermitTo to) e a = grants to e a
-      by PermitRefused e a = again
+      by : (r : Option Word) → permitted_of writer seen ≡ r → Agreed seen → All P (contend_cas_by v writer reloads r)
+      by (Some to) e a = grants to e a
+      by None e a = again
 
   -- registered, and the call goes on
   abbrev Registered : Word → Next → Type 0

@@ -2,7 +2,7 @@
 -- whose compare may find its rule refusing; every place; nobody is woken by an access to a token; the machine.
 -- Not here: the statement (Statements.antt); the table (Tables.antt).
 -- Assumes nothing.
-use Rattle.std.specs.Prelude.{ℕ, ◌+◌, ◌<◌, Bool, true, false, ◌≡◌, eqb}
+use Rattle.std.specs.Prelude.{ℕ, ◌+◌, ◌<◌, Bool, true, false, ◌≡◌, eqb, Err, Ok, Option, Some, None}
 use Rattle.std.proofs.Math.Path.{refl, ap}
 use Rattle.std.proofs.Common.{sym, subst, ◌∙◌, arith}
 use Rattle.word.specs.Cases.{pick_both, pick_yes, pick_no}
@@ -10,15 +10,12 @@ use Rattle.word.specs.Base.{pick}
 use Rattle.word.specs.Flags.{word, LOCKED, SINGLE, locked, clear_queue_locked}
 use Rattle.word.specs.Rules.{read_lock_of, registered_of, taken_of, read_unlock_of}
 use Rattle.word.specs.declared.flags.Word.{Word}
-use Rattle.word.specs.declared.number.Owner.TheVariants.{Nobody}
 use Rattle.word.specs.declared.number.ThreadNumber.{ThreadNumber}
-use Rattle.word.specs.declared.rules.ReadLocked.{ReadLocked}
-use Rattle.word.specs.declared.rules.ReadLocked.TheVariants.{To as ReadTo, Refused as ReadRefused}
 use Rattle.word.specs.declared.rules.ReadUnlocked.{ReadUnlocked}
 use Rattle.word.specs.declared.rules.ReadUnlocked.TheVariants.{To as UnlockTo, Contended, Refused as UnlockRefused}
 use Rattle.state.specs.Access.{access_of, touched_of}
 use Rattle.state.specs.Machine.{thread_limit, thread_at, node_at}
-use Rattle.state.specs.View.{agrees_of}
+use Rattle.state.specs.View.{agrees_of, Stepped}
 use Rattle.state.specs.declared.access.Kind.{Kind}
 use Rattle.state.specs.declared.access.Kind.TheVariants as Kinds
 use Rattle.state.specs.declared.access.Location.{Location}
@@ -29,13 +26,9 @@ use Rattle.state.specs.declared.place.Place.{Place}
 use Rattle.state.specs.declared.place.Place.TheVariants as At
 use Rattle.state.specs.declared.place.Walk.TheVariants.{Queue, ReadUnlock, Downgrade}
 use Rattle.state.specs.declared.view.Change.{Change}
-use Rattle.state.specs.declared.view.Stepped.{Stepped}
-use Rattle.state.specs.declared.view.Stepped.TheVariants.{To, Refused}
 use Rattle.state.specs.declared.view.View.{View}
 use Rattle.acquire.specs.LockContended.{permitted_of, contend_judged, contend_cas_by}
 use Rattle.acquire.specs.TryRead.{try_read_judged, try_read_cas_by}
-use Rattle.acquire.specs.declared.lock_contended.Permitted.{Permitted}
-use Rattle.acquire.specs.declared.lock_contended.Permitted.TheVariants.{To as PermitTo, Refused as PermitRefused}
 use Rattle.release.specs.ReadUnlock.{read_unlock_judged, read_unlock_cas_by}
 use Rattle.lock.specs.Advance.{advance_of}
 use Rattle.lock.specs.Event.{event_of}
@@ -68,18 +61,18 @@ module _ (v : View) where
       (is : (c : Change) → c.word.0 ≡ compared v.fails v.word.0 x.0 to → Leaves v p c) where
     -- it failed, and the word is kept
     fails : agrees_of v x ≡ false → (s : Stepped) → All Keeps s → All (Leaves v p) s
-    fails a (To c) k = is c (k ∙ pick_no (agrees_of v x) v.word.0 to v.word.0 a refl)
-    fails a (Refused r) k = tt
+    fails a (Ok c) k = is c (k ∙ pick_no (agrees_of v x) v.word.0 to v.word.0 a refl)
+    fails a (Err r) k = tt
 
     -- it agreed where its rule refuses: the word is kept, and would be written
     agrees : agrees_of v x ≡ true → to ≡ x.0 → (s : Stepped) → All Keeps s → All (Leaves v p) s
-    agrees a e (To c) k = is c (k ∙ pick_yes (agrees_of v x) v.word.0 to v.word.0 a (agrees_word v x a ∙ sym e))
-    agrees a e (Refused r) k = tt
+    agrees a e (Ok c) k = is c (k ∙ pick_yes (agrees_of v x) v.word.0 to v.word.0 a (agrees_word v x a ∙ sym e))
+    agrees a e (Err r) k = tt
 
     -- it succeeded
     succeeded : agrees_of v x ≡ true → (s : Stepped) → All (λ c. c.word.0 ≡ to) s → All (Leaves v p) s
-    succeeded a (To c) e = is c (pick_yes (agrees_of v x) c.word.0 to v.word.0 a e)
-    succeeded a (Refused r) e = tt
+    succeeded a (Ok c) e = is c (pick_yes (agrees_of v x) c.word.0 to v.word.0 a e)
+    succeeded a (Err r) e = tt
 
     either : (s s' : Stepped)
         → (agrees_of v x ≡ true → All (λ c. c.word.0 ≡ to) s)
@@ -112,9 +105,9 @@ module _ (v : View) where
       to : ℕ
       to = read_to x (read_lock_of x)
 
-      by : (r : ReadLocked) → read_lock_of x ≡ r → agrees_of v x ≡ true → All (Leaves v p) (try_read_cas_by v b r)
-      by (ReadTo y) e a = succeeded p x to (λ c q. q) a (try_read_cas_by v b (ReadTo y)) (sym (ap (read_to x) e))
-      by ReadRefused e a =
+      by : (r : Option Word) → read_lock_of x ≡ r → agrees_of v x ≡ true → All (Leaves v p) (try_read_cas_by v b r)
+      by (Some y) e a = succeeded p x to (λ c q. q) a (try_read_cas_by v b (Some y)) (sym (ap (read_to x) e))
+      by None e a =
           agrees p x to (λ c q. q) a (ap (read_to x) e) (try_read_judged v b v.word) (try_read_keeps b)
 
   contend_cas : (w : Bool) (r : ℕ) (x : Word)
@@ -131,9 +124,9 @@ module _ (v : View) where
       to : ℕ
       to = permit_to x (permitted_of w x)
 
-      by : (y : Permitted) → permitted_of w x ≡ y → agrees_of v x ≡ true → All (Leaves v p) (contend_cas_by v w r y)
-      by (PermitTo y) e a = succeeded p x to (λ c q. q) a (contend_cas_by v w r (PermitTo y)) (sym (ap (permit_to x) e))
-      by PermitRefused e a =
+      by : (y : Option Word) → permitted_of w x ≡ y → agrees_of v x ≡ true → All (Leaves v p) (contend_cas_by v w r y)
+      by (Some y) e a = succeeded p x to (λ c q. q) a (contend_cas_by v w r (Some y)) (sym (ap (permit_to x) e))
+      by None e a =
           agrees p x to (λ c q. q) a (ap (permit_to x) e) (contend_judged v w r v.word) (contend_keeps w r)
 
   read_unlock_cas : (x : Word) → All (Leaves v (At.ReadUnlockCas x)) (advance_of v (At.ReadUnlockCas x))
@@ -220,7 +213,7 @@ module _ (v : View) where
 
 -- ── nobody is woken by an access to a token ──
 
-quiet_token : (k : Kind) (u : ThreadNumber) → woken_by k (Token u) ≡ Nobody
+quiet_token : (k : Kind) (u : ThreadNumber) → woken_by k (Token u) ≡ None
 quiet_token Kinds.Nothing u = refl
 quiet_token Kinds.Load u = refl
 quiet_token Kinds.Store u = refl

@@ -4,22 +4,20 @@
 -- make; machines to try them on.
 -- Not here: what is wrong with a changed program.
 -- Assumes nothing.
-use Rattle.std.specs.Prelude.{ℕ, Bool, true, false, ◌≡◌, refl, leb, eqb, replicate, set}
+use Rattle.std.specs.Prelude.{ℕ, Bool, true, false, ◌≡◌, refl, leb, eqb, replicate, set, Err, Ok}
+use Rattle.std.specs.Prelude.{Option, Some, None}
 use Rattle.std.proofs.Common.{ap}
 use Rattle.word.specs.Base.{pick}
 use Rattle.word.specs.Flags.{word}
 use Rattle.word.specs.Number.{slot_of, thread, node}
-use Rattle.word.specs.declared.number.Owner.{Owner}
-use Rattle.word.specs.declared.number.Slot.TheVariants.{Outside, At as InSlot}
-use Rattle.word.specs.declared.number.Slot.{Slot}
 use Rattle.word.specs.declared.number.ThreadNumber.{ThreadNumber}
+use Rattle.state.specs.Answer.{Verdict}
+use Rattle.state.specs.View.{Stepped}
 use Rattle.state.specs.Access.{touched_of}
 use Rattle.state.specs.Machine.{good_count, thread_at, refused_of, Sized, blank_thread}
 use Rattle.state.specs.Node.{blank_node}
 use Rattle.state.specs.declared.answer.Answer.{Answer}
 use Rattle.state.specs.declared.answer.Refusal.TheVariants.{UnknownCode, NoThread, Damaged}
-use Rattle.state.specs.declared.answer.Verdict.TheVariants.{Fine, Refused as Halted}
-use Rattle.state.specs.declared.answer.Verdict.{Verdict}
 use Rattle.state.specs.declared.holding.Holding.{Holding}
 use Rattle.state.specs.declared.machine.Machine.{Machine}
 use Rattle.state.specs.declared.machine.Outcome.{Outcome}
@@ -28,8 +26,6 @@ use Rattle.state.specs.declared.place.Place.TheVariants as At
 use Rattle.state.specs.declared.place.Place.{Place}
 use Rattle.state.specs.declared.view.Change.{Change}
 use Rattle.state.specs.declared.view.Mark.TheVariants.{Reader}
-use Rattle.state.specs.declared.view.Stepped.TheVariants.{To, Refused as Denied}
-use Rattle.state.specs.declared.view.Stepped.{Stepped}
 use Rattle.state.specs.declared.view.View.{View}
 use Rattle.lock.specs.Advance.{advance_of}
 use Rattle.lock.specs.Begin.{begin_of}
@@ -37,7 +33,7 @@ use Rattle.lock.specs.Code.{code_of}
 use Rattle.lock.specs.Event.{event_by, event_of}
 use Rattle.lock.specs.Landed.{landed_of}
 use Rattle.lock.specs.Step.{halted_of, view_at, touching_by, step_by, step_of}
-use Rattle.lock.specs.declared.code.Code.TheVariants.{Begin, Step, Fail, Unknown}
+use Rattle.lock.specs.declared.code.Code.TheVariants.{Begin, Step, Fail}
 use Rattle.lock.specs.declared.code.Code.{Code}
 use Rattle.promises.specs.Program.{Program, place_of, access_at}
 
@@ -46,13 +42,13 @@ use Rattle.promises.specs.Program.{Program, place_of, access_at}
 abbrev pub Rule : Type 0
 Rule = View → Place → Stepped
 
-abbrev touches_by : Rule → Machine → ThreadNumber → Bool → Slot → Outcome
-touches_by rule m t fails Outside = refused_of m Damaged
-touches_by rule m t fails (InSlot k) = landed_of m t.0 k (rule (view_at m t k fails (place_of m t)) (place_of m t))
+abbrev touches_by : Rule → Machine → ThreadNumber → Bool → Option ℕ → Outcome
+touches_by rule m t fails None = refused_of m Damaged
+touches_by rule m t fails (Some k) = landed_of m t.0 k (rule (view_at m t k fails (place_of m t)) (place_of m t))
 
 abbrev halts_by : Rule → Machine → ThreadNumber → Bool → Verdict → Outcome
-halts_by rule m t fails (Halted r) = refused_of m r
-halts_by rule m t fails Fine = touches_by rule m t fails (slot_of (touched_of (access_at m t) t) m.count)
+halts_by rule m t fails (Err r) = refused_of m r
+halts_by rule m t fails (Ok _) = touches_by rule m t fails (slot_of (touched_of (access_at m t) t) m.count)
 
 abbrev steps_by : Rule → Machine → ThreadNumber → Bool → Outcome
 steps_by rule m t fails = halts_by rule m t fails (halted_of (access_at m t).kind (thread_at m t.0).token fails)
@@ -61,11 +57,11 @@ steps_by rule m t fails = halts_by rule m t fails (halted_of (access_at m t).kin
 abbrev below : Machine → ThreadNumber → Outcome → Outcome
 below m t rest = pick (leb m.count t.0) (refused_of m NoThread) rest
 
-abbrev coded_by : Rule → Machine → Code → ThreadNumber → Outcome
-coded_by rule m Unknown t = refused_of m UnknownCode
-coded_by rule m (Begin call) t = below m t (begin_of m t.0 call)
-coded_by rule m Step t = below m t (steps_by rule m t false)
-coded_by rule m Fail t = below m t (steps_by rule m t true)
+abbrev coded_by : Rule → Machine → Option Code → ThreadNumber → Outcome
+coded_by rule m None t = refused_of m UnknownCode
+coded_by rule m (Some (Begin call)) t = below m t (begin_of m t.0 call)
+coded_by rule m (Some Step) t = below m t (steps_by rule m t false)
+coded_by rule m (Some Fail) t = below m t (steps_by rule m t true)
 
 -- refusal 8 for the thread count, before the rest
 abbrev counted : Machine → Outcome → Outcome
@@ -80,23 +76,23 @@ same_step : (m : Machine) (t : ThreadNumber) (fails : Bool) → steps_by advance
 unfolding step_of
 same_step m t fails = by (halted_of (access_at m t).kind (thread_at m t.0).token fails)
   where
-    touches : (s : Slot) → touches_by advance_of m t fails s ≡ touching_by m t fails (place_of m t) s
-    touches Outside = refl
-    touches (InSlot k) = refl
+    touches : (s : Option ℕ) → touches_by advance_of m t fails s ≡ touching_by m t fails (place_of m t) s
+    touches None = refl
+    touches (Some k) = refl
 
     by : (v : Verdict) → halts_by advance_of m t fails v ≡ step_by m t fails (place_of m t) v
-    by (Halted r) = refl
-    by Fine = touches (slot_of (touched_of (access_at m t) t) m.count)
+    by (Err r) = refl
+    by (Ok _) = touches (slot_of (touched_of (access_at m t) t) m.count)
 
 pub unchanged : (m : Machine) (code : ℕ) (t : ThreadNumber) → program_of advance_of m code t ≡ event_of m code t
 unfolding event_of
 unchanged m code t = by (code_of code)
   where
-    by : (c : Code) → counted m (coded_by advance_of m c t) ≡ counted m (event_by m c t)
-    by Unknown = refl
-    by (Begin call) = refl
-    by Step = ap (λ o. counted m (below m t o)) (same_step m t false)
-    by Fail = ap (λ o. counted m (below m t o)) (same_step m t true)
+    by : (c : Option Code) → counted m (coded_by advance_of m c t) ≡ counted m (event_by m c t)
+    by None = refl
+    by (Some (Begin call)) = refl
+    by (Some Step) = ap (λ o. counted m (below m t o)) (same_step m t false)
+    by (Some Fail) = ap (λ o. counted m (below m t o)) (same_step m t true)
 
 -- ── the rule of one place changed ──
 
@@ -139,22 +135,22 @@ changed_at k change v p = pick (eqb (which p) k) (change v (advance_of v p)) (ad
 
 -- a step with another answer, another token, another thread woken, another node, gone on to another place
 abbrev pub answering : (Answer → Answer) → Stepped → Stepped
-answering f (To c) =
-    To (record { word = c.word; node = c.node; thread = c.thread; answer = f c.answer; woken = c.woken })
-answering f (Denied r) = Denied r
+answering f (Ok c) =
+    Ok (record { word = c.word; node = c.node; thread = c.thread; answer = f c.answer; woken = c.woken })
+answering f (Err r) = Err r
 
-abbrev pub waking : Owner → Stepped → Stepped
-waking w (To c) = To (record { word = c.word; node = c.node; thread = c.thread; answer = c.answer; woken = w })
-waking w (Denied r) = Denied r
+abbrev pub waking : Option ThreadNumber → Stepped → Stepped
+waking w (Ok c) = Ok (record { word = c.word; node = c.node; thread = c.thread; answer = c.answer; woken = w })
+waking w (Err r) = Err r
 
 abbrev pub leaving_node : (Change → Node) → Stepped → Stepped
-leaving_node f (To c) =
-    To (record { word = c.word; node = f c; thread = c.thread; answer = c.answer; woken = c.woken })
-leaving_node f (Denied r) = Denied r
+leaving_node f (Ok c) =
+    Ok (record { word = c.word; node = f c; thread = c.thread; answer = c.answer; woken = c.woken })
+leaving_node f (Err r) = Err r
 
 abbrev pub with_token : Bool → Stepped → Stepped
-with_token token (To c) =
-    To
+with_token token (Ok c) =
+    Ok
     (record {
       word = c.word;
       node = c.node;
@@ -162,11 +158,11 @@ with_token token (To c) =
       answer = c.answer;
       woken = c.woken;
     })
-with_token token (Denied r) = Denied r
+with_token token (Err r) = Err r
 
 abbrev pub going_to : (Place → Place) → Stepped → Stepped
-going_to f (To c) =
-    To
+going_to f (Ok c) =
+    Ok
     (record {
       word = c.word;
       node = c.node;
@@ -174,7 +170,7 @@ going_to f (To c) =
       answer = c.answer;
       woken = c.woken;
     })
-going_to f (Denied r) = Denied r
+going_to f (Err r) = Err r
 
 -- a view in which every step is made to fail, or every tail found is a reader's
 abbrev pub failing : View → View

@@ -4,7 +4,7 @@
 -- in the order of document 01's step rules: try_read, contend, find tail, unlock queue, read_unlock.
 -- Not here: what is found and what is left at the access (Tables.antt); that a step follows them (Statements.antt).
 -- Assumes nothing.
-use Rattle.std.specs.Prelude.{ℕ, ◌+◌, ◌-◌, Bool, true, false, eqb, ltb}
+use Rattle.std.specs.Prelude.{ℕ, ◌+◌, ◌-◌, Bool, true, false, eqb, ltb, Option, Some, None}
 use Rattle.word.specs.Base.{pick}
 use Rattle.word.specs.Flags.{word, LOCKED, SINGLE, locked, queued, queue_locked, downgraded, to_node}
 use Rattle.word.specs.Number.{is_none, none, node}
@@ -12,8 +12,6 @@ use Rattle.word.specs.Rules.{read_lock_of, registered_of, read_unlock_of}
 use Rattle.word.specs.declared.flags.Word.{Word}
 use Rattle.word.specs.declared.number.NodeNumber.{NodeNumber}
 use Rattle.word.specs.declared.number.ThreadNumber.{ThreadNumber}
-use Rattle.word.specs.declared.rules.ReadLocked.{ReadLocked}
-use Rattle.word.specs.declared.rules.ReadLocked.TheVariants.{To as ReadTo, Refused as ReadRefused}
 use Rattle.word.specs.declared.rules.ReadUnlocked.{ReadUnlocked}
 use Rattle.word.specs.declared.rules.ReadUnlocked.TheVariants.{To as UnlockTo, Contended, Refused as UnlockRefused}
 use Rattle.state.specs.Node.{filled_of}
@@ -25,8 +23,6 @@ use Rattle.state.specs.declared.place.Walk.TheVariants.{Queue, ReadUnlock, Downg
 use Rattle.state.specs.declared.place.Who.{Who}
 use Rattle.state.specs.declared.place.Who.TheVariants.{Waiter, Leaver}
 use Rattle.acquire.specs.LockContended.{permitted_of}
-use Rattle.acquire.specs.declared.lock_contended.Permitted.{Permitted}
-use Rattle.acquire.specs.declared.lock_contended.Permitted.TheVariants.{To as PermitTo, Refused as PermitRefused}
 use Rattle.promises.specs.Tables.{release_to}
 
 -- ── what a judged word leads to ──
@@ -36,26 +32,26 @@ abbrev pub succeeds : Bool → ℕ → Word → Bool
 succeeds fails found seen = pick fails false (eqb found seen.0)
 
 -- try_read, judged on a word: compare; a refusal sends read to contend, and ends a try
-abbrev pub tries_on : Bool → Word → ReadLocked → Place
-tries_on blocking w (ReadTo to) = At.TryReadCas blocking w
-tries_on blocking w ReadRefused = pick blocking (At.ContendLoad false 0) At.Idle
+abbrev pub tries_on : Bool → Word → Option Word → Place
+tries_on blocking w (Some to) = At.TryReadCas blocking w
+tries_on blocking w None = pick blocking (At.ContendLoad false 0) At.Idle
 
 -- its compare agreed on the word seen: the end, by the rule on that word
-abbrev pub tried_on : Bool → Word → ReadLocked → Place
-tried_on blocking w (ReadTo to) = At.Idle
-tried_on blocking w ReadRefused = tries_on blocking w (read_lock_of w)
+abbrev pub tried_on : Bool → Word → Option Word → Place
+tried_on blocking w (Some to) = At.Idle
+tried_on blocking w None = tries_on blocking w (read_lock_of w)
 
 -- contend, judged on a word: compare; else QUEUED clear and fewer than 7 reloads so far: reload; else register
-abbrev pub contends_on : Bool → ℕ → Word → Permitted → Place
-contends_on writer reloads w (PermitTo to) = At.ContendCas writer reloads w
-contends_on writer reloads w PermitRefused =
+abbrev pub contends_on : Bool → ℕ → Word → Option Word → Place
+contends_on writer reloads w (Some to) = At.ContendCas writer reloads w
+contends_on writer reloads w None =
     pick (queued w)
     (At.RegisterCas writer reloads w)
     (pick (ltb reloads 7) (At.ContendLoad writer (reloads + 1)) (At.RegisterCas writer reloads w))
 
-abbrev pub contended_on : Bool → ℕ → Word → Permitted → Place
-contended_on writer reloads w (PermitTo to) = At.Idle
-contended_on writer reloads w PermitRefused = contends_on writer reloads w (permitted_of writer w)
+abbrev pub contended_on : Bool → ℕ → Word → Option Word → Place
+contended_on writer reloads w (Some to) = At.Idle
+contended_on writer reloads w None = contends_on writer reloads w (permitted_of writer w)
 
 -- registered: whoever turned QUEUE_LOCKED on runs unlock queue; then load completed
 abbrev pub registered_on : ThreadNumber → Bool → Word → Place

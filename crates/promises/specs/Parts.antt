@@ -2,14 +2,12 @@
 -- each place makes. In order: numbers and owners; answers; records and lists; sorts of access; a node accessed. For the
 -- proof that only one program satisfies the statements (OnlyOne.antt). Not here: refusals (RefusalProofs.antt).
 -- Assumes nothing.
-use Rattle.std.specs.Prelude.{ℕ, ◌+◌, Bool, true, false, ◌≢◌, ◌⊎◌, ◌≡◌, refl, eqb}
+use Rattle.std.specs.Prelude.{ℕ, ◌+◌, Bool, true, false, ◌≢◌, ◌⊎◌, ◌≡◌, refl, eqb, Option, Some, None}
 use Rattle.std.proofs.Common.{inl, inr, sym, ap, subst, ◌∙◌, arith, eqb-true, ext_get_or}
 use Rattle.std.proofs.lemmas.Bool.{eqb-false}
 use Rattle.word.specs.Base.{pick}
 use Rattle.word.specs.Number.{thread}
 use Rattle.word.specs.declared.number.NodeNumber.{NodeNumber}
-use Rattle.word.specs.declared.number.Owner.{Owner}
-use Rattle.word.specs.declared.number.Owner.TheVariants.{Nobody, Thread as Somebody}
 use Rattle.word.specs.declared.number.ThreadNumber.{ThreadNumber}
 use Rattle.state.specs.Access.{access, access_of, touched_at}
 use Rattle.state.specs.Machine.{Sized, thread_at, node_at, blank_thread}
@@ -42,18 +40,18 @@ same? i j = by (eqb i j) refl
     by false e = inr (eqb-false i j e)
 
 -- the thread of an owner
-pub owner_is : (x : ThreadNumber) (u : ℕ) → Somebody x ≡ Somebody (thread u) → x.0 ≡ u
+pub owner_is : (x : ThreadNumber) (u : ℕ) → Some x ≡ Some (thread u) → x.0 ≡ u
 owner_is x u e = let i : x ≡ thread u = cc in ap (λ (y : ThreadNumber). y.0) i
 
-pub nobody_not : {A : Type 0} (u : ℕ) → Nobody ≡ Somebody (thread u) → A
-nobody_not u e = let bad : ◌≡◌ {A = ℕ} 0 1 = cc in absurd (omega arith)
+pub nobody_not : {A : Type 0} (u : ℕ) → None ≡ Some (thread u) → A
+nobody_not u e = cc
 
-pub is_thread : (o : Owner) (u : ℕ) → (o ≡ Somebody (thread u)) ⊎ (o ≢ Somebody (thread u))
-is_thread Nobody u = inr (nobody_not u)
-is_thread (Somebody x) u = by (same? x.0 u)
+pub is_thread : (o : Option ThreadNumber) (u : ℕ) → (o ≡ Some (thread u)) ⊎ (o ≢ Some (thread u))
+is_thread None u = inr (nobody_not u)
+is_thread (Some x) u = by (same? x.0 u)
   where
-    by : (x.0 ≡ u) ⊎ (x.0 ≢ u) → (Somebody x ≡ Somebody (thread u)) ⊎ (Somebody x ≢ Somebody (thread u))
-    by (inl i) = inl (ap (λ (j : ℕ). Somebody (thread j)) i)
+    by : (x.0 ≡ u) ⊎ (x.0 ≢ u) → (Some x ≡ Some (thread u)) ⊎ (Some x ≢ Some (thread u))
+    by (inl i) = inl (ap (λ (j : ℕ). Some (thread j)) i)
     by (inr ne) = inr (λ e. ne (owner_is x u e))
 
 -- ── answers ──

@@ -2,15 +2,16 @@
 -- the two machines; a step; a begin; the event.
 -- Not here: the statement (Statements.antt); that the rules do the same (Twins.antt).
 -- Assumes nothing.
-use Rattle.std.specs.Prelude.{ℕ, ◌+◌, ◌≤◌, ◌<◌, Bool, true, false, ◌⊎◌, ◌≡◌, leb}
+use Rattle.std.specs.Prelude.{ℕ, ◌+◌, ◌≤◌, ◌<◌, Bool, true, false, ◌⊎◌, ◌≡◌, leb, Err, Ok}
+use Rattle.std.specs.Prelude.{Option, Some, None}
 use Rattle.std.proofs.Common.{inl, sym, ◌∙◌, arith, leb-false, get_or-set_same}
 use Rattle.std.proofs.Math.Path.{refl, ap, subst}
 use Rattle.word.specs.Base.{pick}
 use Rattle.word.specs.Flags.{word}
 use Rattle.word.specs.Number.{slot_of}
-use Rattle.word.specs.declared.number.Slot.{Slot}
-use Rattle.word.specs.declared.number.Slot.TheVariants.{Outside, At as InSlot}
 use Rattle.word.specs.declared.number.ThreadNumber.{ThreadNumber}
+use Rattle.state.specs.View.{Stepped}
+use Rattle.state.specs.Answer.{Verdict, accepted_with}
 use Rattle.state.specs.Access.{access_of, touched_at, touched_of}
 use Rattle.state.specs.Machine.{Sized, thread_limit, good_count, thread_at, node_at, blank_thread, refused_of}
 use Rattle.state.specs.declared.access.Location.{Location}
@@ -18,17 +19,12 @@ use Rattle.state.specs.declared.access.Location.TheVariants.{Nowhere, Word as Th
 use Rattle.state.specs.declared.access.Location.TheVariants.{Token}
 use Rattle.state.specs.declared.answer.Refusal.{Refusal}
 use Rattle.state.specs.declared.answer.Refusal.TheVariants.{UnknownCode, NoThread, InsideCall, WrongHolding, Damaged}
-use Rattle.state.specs.declared.answer.Reply.TheVariants.{Accepted}
-use Rattle.state.specs.declared.answer.Verdict.{Verdict}
-use Rattle.state.specs.declared.answer.Verdict.TheVariants.{Fine, Refused as Halted}
 use Rattle.state.specs.declared.machine.Machine.{Machine}
 use Rattle.state.specs.declared.machine.Outcome.{Outcome}
 use Rattle.state.specs.declared.machine.Thread.{Thread}
 use Rattle.state.specs.declared.place.Place.{Place}
 use Rattle.state.specs.declared.view.Change.{Change}
 use Rattle.state.specs.declared.view.Mark.TheVariants.{Reader, Writer}
-use Rattle.state.specs.declared.view.Stepped.{Stepped}
-use Rattle.state.specs.declared.view.Stepped.TheVariants.{To, Refused}
 use Rattle.lock.specs.Advance.{advance_of}
 use Rattle.lock.specs.Begin.{is_idle, may_begin, first_place, placed_of, began_of, begin_of}
 use Rattle.lock.specs.Code.{code_of}
@@ -39,7 +35,7 @@ use Rattle.lock.specs.Step.{halted_of, marked_of, mark_by, mark_of, view_at, tou
 use Rattle.lock.specs.Still.{idle_is}
 use Rattle.lock.specs.declared.code.Call.{Call}
 use Rattle.lock.specs.declared.code.Code.{Code}
-use Rattle.lock.specs.declared.code.Code.TheVariants.{Begin, Step, Fail, Unknown}
+use Rattle.lock.specs.declared.code.Code.TheVariants.{Begin, Step, Fail}
 use Rattle.promises.specs.Places.{never}
 use Rattle.promises.specs.Program.{place_of}
 use Rattle.promises.specs.Statements.{Alike, DoSame, ReadsOneAccess}
@@ -112,11 +108,11 @@ module _ (t : ThreadNumber) (m m' : Machine) (z : Sized m) (z' : Sized m') (alik
       landed_same : (x x' : Stepped)
           → Twin (access_of t p).location (node_at m k) (node_at m' k) x x'
           → Same (landed_of m t.0 k x) (landed_of m' t.0 k x')
-      landed_same (To c) (To c') (told, filled, quiet) =
+      landed_same (Ok c) (Ok c') (told, filled, quiet) =
           let own = (own_token t p).own in
           let quiet' : Quiet l c'.woken = subst (Quiet l) (ap (λ (y : Told). y.woken) told) quiet in
           record {
-            reply = ap (λ (y : Told). Accepted y.answer y.woken) told;
+            reply = ap (λ (y : Told). accepted_with y.answer y.woken) told;
             place = stored_place m t z k low own_low c ∙
                 (ap (λ (y : Told). y.place) told ∙ sym (stored_place m' t z' k low own_low c'));
             holding = stored_holding m t z k low own_low c ∙
@@ -125,9 +121,9 @@ module _ (t : ThreadNumber) (m m' : Machine) (z : Sized m) (z' : Sized m') (alik
                 (ap (λ (y : Told). y.value) told ∙ sym (stored_value m' t z' k low own_low c' l at own quiet'));
             own = own_same c c' filled;
           }
-      landed_same (To c) (Refused r) h = absurd h
-      landed_same (Refused r) (To c) h = absurd h
-      landed_same (Refused r) (Refused r') h = subst (λ y. Same (refused_of m r) (refused_of m' y)) h (refused_same r)
+      landed_same (Ok c) (Err r) h = absurd h
+      landed_same (Err r) (Ok c) h = absurd h
+      landed_same (Err r) (Err r') h = subst (λ y. Same (refused_of m r) (refused_of m' y)) h (refused_same r)
 
     marks_same : Marks p (mark_of m (marked_of p)) (mark_of m' (marked_of p))
     unfolding marked_of
@@ -135,9 +131,9 @@ module _ (t : ThreadNumber) (m m' : Machine) (z : Sized m) (z' : Sized m') (alik
         subst (λ q. mark_of m (marked_of q) ≡ mark_of m' (marked_of q)) (sym is)
         (ap (λ j. mark_by m (slot_of tail j)) alike.count ∙ by (slot_of tail m'.count) refl)
       where
-        by : (y : Slot) → slot_of tail m'.count ≡ y → mark_by m y ≡ mark_by m' y
-        by Outside e = refl
-        by (InSlot j) e =
+        by : (y : Option ℕ) → slot_of tail m'.count ≡ y → mark_by m y ≡ mark_by m' y
+        by None e = refl
+        by (Some j) e =
             let f : tail.0 ≡ j + 1 = (slot_at tail m'.count j e).0 in
             ap (λ y. pick y Writer Reader)
             (subst (λ i. (node_at m i).writer ≡ (node_at m' i).writer)
@@ -165,11 +161,11 @@ module _ (t : ThreadNumber) (m m' : Machine) (z : Sized m) (z' : Sized m') (alik
         (sym before ∙ (value_same ∙ before'))
         marks_same)
 
-    touching_same : m.count ≤ thread_limit → (fails : Bool) (y : Slot)
+    touching_same : m.count ≤ thread_limit → (fails : Bool) (y : Option ℕ)
         → slot_of (touched_of (access_of t p) t) m.count ≡ y
         → Same (touching_by m t fails p y) (touching_by m' t fails p y)
-    touching_same few fails Outside e = refused_same Damaged
-    touching_same few fails (InSlot k) e =
+    touching_same few fails None e = refused_same Damaged
+    touching_same few fails (Some k) e =
         let f : ((touched_of (access_of t p) t).0 ≡ k + 1) × (k < m.count) =
         slot_at (touched_of (access_of t p) t) m.count k e in
         landed_same k (omega (arith, f.1, few)) f.0
@@ -185,8 +181,8 @@ module _ (t : ThreadNumber) (m m' : Machine) (z : Sized m) (z' : Sized m') (alik
         (by (halted_of (access_of t p).kind (thread_at m t.0).token fails))
       where
         by : (y : Verdict) → Same (step_by m t fails p y) (step_by m' t fails p y)
-        by (Halted r) = refused_same r
-        by Fine =
+        by (Err r) = refused_same r
+        by (Ok _) =
             let touched = touched_of (access_of t p) t in
             let slot = slot_of touched m.count in
             subst
@@ -241,11 +237,11 @@ module _ (t : ThreadNumber) (m m' : Machine) (z : Sized m) (z' : Sized m') (alik
       (λ _. refused_same NoThread)
       (λ e. f (omega (arith, leb-false m.count t.0 e, few)))
 
-  code_same : m.count ≤ thread_limit → (c : Code) → Same (event_by m c t) (event_by m' c t)
-  code_same few Unknown = refused_same UnknownCode
-  code_same few (Begin call) = below_same few _ _ (λ low. begin_same low call)
-  code_same few Step = below_same few _ _ (λ low. stepped_same low few false)
-  code_same few Fail = below_same few _ _ (λ low. stepped_same low few true)
+  code_same : m.count ≤ thread_limit → (c : Option Code) → Same (event_by m c t) (event_by m' c t)
+  code_same few None = refused_same UnknownCode
+  code_same few (Some (Begin call)) = below_same few _ _ (λ low. begin_same low call)
+  code_same few (Some Step) = below_same few _ _ (λ low. stepped_same low few false)
+  code_same few (Some Fail) = below_same few _ _ (λ low. stepped_same low few true)
 
   event_same : (code : ℕ) → Same (event_of m code t) (event_of m' code t)
   unfolding event_of

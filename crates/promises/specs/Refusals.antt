@@ -1,13 +1,13 @@
 -- Document 01's refusal table: each number with its condition, in the order of checking.
 -- Assumes nothing.
-use Rattle.std.specs.Prelude.{ℕ, ◌+◌, ◌-◌, Bool, true, false, not, List, [], ◌∷◌, leb, ltb, eqb}
+use Rattle.std.specs.Prelude.{ℕ, ◌+◌, ◌-◌, Bool, true, false, not, List, [], ◌∷◌, leb, ltb, eqb, Err, Ok}
 use Rattle.word.specs.Base.{pick}
 use Rattle.word.specs.Flags.{LOCKED, SINGLE, locked, queued, downgraded}
 use Rattle.word.specs.declared.flags.Word.{Word}
 use Rattle.word.specs.declared.number.NodeNumber.{NodeNumber}
 use Rattle.word.specs.declared.number.ThreadNumber.{ThreadNumber}
 use Rattle.state.specs.Access.{access_of}
-use Rattle.state.specs.Answer.{refusal_number}
+use Rattle.state.specs.Answer.{refusal_number, Reply}
 use Rattle.state.specs.Holding.{reads_of, writes_of}
 use Rattle.state.specs.Machine.{good_count, thread_at, node_at}
 use Rattle.state.specs.declared.access.Kind.{Kind}
@@ -16,8 +16,6 @@ use Rattle.state.specs.declared.access.Kind.TheVariants.{Subtract as Subtracting
 use Rattle.state.specs.declared.access.Location.{Location}
 use Rattle.state.specs.declared.access.Location.TheVariants.{Nowhere, Word as TheWord, Next}
 use Rattle.state.specs.declared.access.Location.TheVariants.{Prev, Tail, Completed, Token}
-use Rattle.state.specs.declared.answer.Reply.{Reply}
-use Rattle.state.specs.declared.answer.Reply.TheVariants.{Accepted, Refused}
 use Rattle.state.specs.declared.holding.Holding.{Holding}
 use Rattle.state.specs.declared.machine.Machine.{Machine}
 use Rattle.state.specs.declared.place.Walk.{Walk}
@@ -33,8 +31,8 @@ or a b = pick a true b
 
 -- the number that a reply gives; 0 where the event is accepted
 abbrev pub number_given : Reply → ℕ
-number_given (Accepted answer woken) = 0
-number_given (Refused r) = refusal_number r
+number_given (Ok told) = 0
+number_given (Err r) = refusal_number r
 
 pub record Row : Type 0 where
   pub number : ℕ

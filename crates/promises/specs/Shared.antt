@@ -4,10 +4,9 @@
 -- Not here: what is left at an access and where a step goes on to, exactly (Tables.antt, Goes.antt); that the rules do
 -- so (Obeys.antt).
 -- Assumes nothing.
-use Rattle.std.specs.Prelude.{Bool, true, false, not, ◌≡◌, ◌⊎◌, eqb}
+use Rattle.std.specs.Prelude.{Bool, true, false, not, ◌≡◌, ◌⊎◌, eqb, Option, None}
 use Rattle.word.specs.Number.{owner_of}
-use Rattle.word.specs.declared.number.Owner.{Owner}
-use Rattle.word.specs.declared.number.Owner.TheVariants.{Nobody}
+use Rattle.word.specs.declared.number.ThreadNumber.{ThreadNumber}
 use Rattle.state.specs.Access.{access_of}
 use Rattle.state.specs.Node.{filled_of, with_next, with_prev, with_tail}
 use Rattle.state.specs.declared.access.Access.{Access}
@@ -137,26 +136,26 @@ fills (ReleaseCas _) = false
 fills DowngradeCas = false
 fills (DowngradeSlowCas _) = false
 
-abbrev pub owner_at : Location → Owner
-owner_at Nowhere = Nobody
-owner_at TheWord = Nobody
-owner_at (Next n) = Nobody
-owner_at (Prev n) = Nobody
-owner_at (Tail n) = Nobody
+abbrev pub owner_at : Location → Option ThreadNumber
+owner_at Nowhere = None
+owner_at TheWord = None
+owner_at (Next n) = None
+owner_at (Prev n) = None
+owner_at (Tail n) = None
 owner_at (Completed n) = owner_of n
-owner_at (Token t) = Nobody
+owner_at (Token t) = None
 
 -- completing wakes the owner of its node; nothing else wakes anybody
-abbrev pub woken_by : Kind → Location → Owner
-woken_by Nothing l = Nobody
-woken_by Load l = Nobody
-woken_by Store l = Nobody
-woken_by WeakCompare l = Nobody
-woken_by StrongCompare l = Nobody
-woken_by FetchOr l = Nobody
-woken_by Subtracting l = Nobody
+abbrev pub woken_by : Kind → Location → Option ThreadNumber
+woken_by Nothing l = None
+woken_by Load l = None
+woken_by Store l = None
+woken_by WeakCompare l = None
+woken_by StrongCompare l = None
+woken_by FetchOr l = None
+woken_by Subtracting l = None
 woken_by Complete l = owner_at l
-woken_by Parking l = Nobody
+woken_by Parking l = None
 
 -- the whole queue was taken off
 abbrev pub took_all : QueueEffect → Bool

@@ -7,15 +7,14 @@
 -- Not here: the tables that the statements cite (Refusals.antt, Shared.antt, Tables.antt, Goes.antt); statements over
 -- whole runs (crate safety); replays and files (crate schedule).
 -- Assumes nothing.
-use Rattle.std.specs.Prelude.{ℕ, ◌+◌, Bool, true, false, not, ◌⊎◌, ◌≢◌, ◌≡◌, eqb}
+use Rattle.std.specs.Prelude.{ℕ, ◌+◌, Bool, true, false, not, ◌⊎◌, ◌≢◌, ◌≡◌, eqb, Err, Option, Some, None}
 use Rattle.word.specs.Base.{pick}
 use Rattle.word.specs.Flags.{locked, downgraded}
 use Rattle.word.specs.Number.{thread, node_of}
 use Rattle.word.specs.declared.flags.Word.{Word}
 use Rattle.word.specs.declared.number.NodeNumber.{NodeNumber}
-use Rattle.word.specs.declared.number.Owner.{Owner}
-use Rattle.word.specs.declared.number.Owner.TheVariants.{Nobody, Thread}
 use Rattle.word.specs.declared.number.ThreadNumber.{ThreadNumber}
+use Rattle.state.specs.Answer.{accepted_with}
 use Rattle.state.specs.Access.{access, touched_of}
 use Rattle.state.specs.Machine.{Sized, thread_at, node_at}
 use Rattle.state.specs.Node.{filled_of}
@@ -25,7 +24,6 @@ use Rattle.state.specs.declared.access.Location.TheVariants.{Completed}
 use Rattle.state.specs.declared.answer.Answer.{Answer}
 use Rattle.state.specs.declared.answer.Answer.TheVariants.{Begun}
 use Rattle.state.specs.declared.answer.Refusal.{Refusal}
-use Rattle.state.specs.declared.answer.Reply.TheVariants.{Accepted, Refused}
 use Rattle.state.specs.declared.machine.Machine.{Machine}
 use Rattle.state.specs.declared.machine.Outcome.{Outcome}
 use Rattle.state.specs.declared.place.Place.TheVariants.{WalkHead}
@@ -53,7 +51,7 @@ RefusalTable event =
 abbrev pub RefusedUnchanged : Program → Type 0
 RefusedUnchanged event =
     (m : Machine) (code : ℕ) (t : ThreadNumber) (r : Refusal)
-    → (event m code t).reply ≡ Refused r
+    → (event m code t).reply ≡ Err r
     → (event m code t).machine ≡ m
 
 -- ── demand 2: how calls begin and end ──
@@ -70,21 +68,21 @@ pub record Ended (m : Machine) (t : ThreadNumber) (a : Answer) (m' : Machine) : 
   pub no : is_no a ≡ and (tries (place_of m t)) (and (is_idle (place_of m' t)) (not (grants (effect_of t m m').lock)))
 
 -- how a begin of t leaves it: at the first place of that very call, blocking exactly for read and write
-pub record Began (code : ℕ) (t : ThreadNumber) (a : Answer) (w : Owner) (m' : Machine) : Type 0 where
+pub record Began (code : ℕ) (t : ThreadNumber) (a : Answer) (w : Option ThreadNumber) (m' : Machine) : Type 0 where
   pub answer : a ≡ Begun
-  pub woken : w ≡ Nobody
+  pub woken : w ≡ None
   pub place : place_of m' t ≡ begins_at code
 
 pub record EndsExactly (event : Program) : Type 0 where
-  pub step : (m : Machine) (code : ℕ) (t : ThreadNumber) (a : Answer) (w : Owner)
+  pub step : (m : Machine) (code : ℕ) (t : ThreadNumber) (a : Answer) (w : Option ThreadNumber)
       → Sized m
       → steps code ≡ true
-      → (event m code t).reply ≡ Accepted a w
+      → (event m code t).reply ≡ accepted_with a w
       → Ended m t a (event m code t).machine
-  pub begin : (m : Machine) (code : ℕ) (t : ThreadNumber) (a : Answer) (w : Owner)
+  pub begin : (m : Machine) (code : ℕ) (t : ThreadNumber) (a : Answer) (w : Option ThreadNumber)
       → Sized m
       → begins code ≡ true
-      → (event m code t).reply ≡ Accepted a w
+      → (event m code t).reply ≡ accepted_with a w
       → Began code t a w (event m code t).machine
 
 -- ── demand 2: what an access reads ──
@@ -131,20 +129,20 @@ ReadsOneAccess event =
 -- the value left at the access is the one of table `left_by`; code 17 makes the step fail
 abbrev pub WritesExactly : Program → Type 0
 WritesExactly event =
-    (m : Machine) (code : ℕ) (t : ThreadNumber) (a : Answer) (w : Owner)
+    (m : Machine) (code : ℕ) (t : ThreadNumber) (a : Answer) (w : Option ThreadNumber)
     → Sized m
     → steps code ≡ true
-    → (event m code t).reply ≡ Accepted a w
+    → (event m code t).reply ≡ accepted_with a w
     → value_at (event m code t).machine (access_at m t).location
     ≡ left_by t (place_of m t) (eqb code 17) (value_at m (access_at m t).location)
 
 -- the place gone on to is the one of table `goes_to`
 abbrev pub GoesExactly : Program → Type 0
 GoesExactly event =
-    (m : Machine) (code : ℕ) (t : ThreadNumber) (a : Answer) (w : Owner)
+    (m : Machine) (code : ℕ) (t : ThreadNumber) (a : Answer) (w : Option ThreadNumber)
     → Sized m
     → steps code ≡ true
-    → (event m code t).reply ≡ Accepted a w
+    → (event m code t).reply ≡ accepted_with a w
     → place_of (event m code t).machine t
     ≡ goes_to t (place_of m t) (eqb code 17) (value_at m (access_at m t).location) (writer_of m)
 
@@ -152,10 +150,10 @@ GoesExactly event =
 -- other access one_access leaves no node but the one accessed.)
 abbrev pub FillsExactly : Program → Type 0
 FillsExactly event =
-    (m : Machine) (code : ℕ) (t : ThreadNumber) (a : Answer) (w : Owner)
+    (m : Machine) (code : ℕ) (t : ThreadNumber) (a : Answer) (w : Option ThreadNumber)
     → Sized m
     → steps code ≡ true
-    → (event m code t).reply ≡ Accepted a w
+    → (event m code t).reply ≡ accepted_with a w
     → in_word (access_at m t).location ≡ true
     → node_at (event m code t).machine t.0 ≡ node_for t (place_of (event m code t).machine t) (node_at m t.0)
 
@@ -174,10 +172,10 @@ last_by m t m' =
 -- went by
 abbrev pub SeenIsTheLastWord : Program → Type 0
 SeenIsTheLastWord event =
-    (m : Machine) (code : ℕ) (t : ThreadNumber) (a : Answer) (w : Owner)
+    (m : Machine) (code : ℕ) (t : ThreadNumber) (a : Answer) (w : Option ThreadNumber)
     → Sized m
     → steps code ≡ true
-    → (event m code t).reply ≡ Accepted a w
+    → (event m code t).reply ≡ accepted_with a w
     → (x : Word)
     → (goes_by (place_of (event m code t).machine t) ≡ saw x → saw x ≡ last_by m t (event m code t).machine)
     × (restores_at (place_of (event m code t).machine t) ≡ saw x → saw x ≡ goes_by (place_of m t))
@@ -186,35 +184,35 @@ SeenIsTheLastWord event =
 
 -- the token after park: clear on code 16, as it was on 17
 pub record ParkTakesTheToken (event : Program) : Type 0 where
-  pub clears : (m : Machine) (t : ThreadNumber) (a : Answer) (w : Owner)
+  pub clears : (m : Machine) (t : ThreadNumber) (a : Answer) (w : Option ThreadNumber)
       → Sized m
       → (access_at m t).kind ≡ Park
-      → (event m 16 t).reply ≡ Accepted a w
+      → (event m 16 t).reply ≡ accepted_with a w
       → (thread_at (event m 16 t).machine t.0).token ≡ false
-  pub leaves : (m : Machine) (t : ThreadNumber) (a : Answer) (w : Owner)
+  pub leaves : (m : Machine) (t : ThreadNumber) (a : Answer) (w : Option ThreadNumber)
       → Sized m
       → (access_at m t).kind ≡ Park
-      → (event m 17 t).reply ≡ Accepted a w
+      → (event m 17 t).reply ≡ accepted_with a w
       → (thread_at (event m 17 t).machine t.0).token ≡ (thread_at m t.0).token
 
 -- the owner of node n is the thread reported woken, and has its token, set before or not
-pub record Owned (n : NodeNumber) (w : Owner) (m' : Machine) : Type 0 where
+pub record Owned (n : NodeNumber) (w : Option ThreadNumber) (m' : Machine) : Type 0 where
   pub owner : ThreadNumber
   pub owns : node_of owner ≡ n
-  pub reported : w ≡ Thread owner
+  pub reported : w ≡ Some owner
   pub token : (thread_at m' owner.0).token ≡ true
 
 -- woken is the owner of the node that this step completes; nobody otherwise
 pub record WokenIsTheOwner (event : Program) : Type 0 where
-  pub completing : (m : Machine) (code : ℕ) (t : ThreadNumber) (a : Answer) (w : Owner) (n : NodeNumber)
+  pub completing : (m : Machine) (code : ℕ) (t : ThreadNumber) (a : Answer) (w : Option ThreadNumber) (n : NodeNumber)
       → Sized m
-      → (event m code t).reply ≡ Accepted a w
+      → (event m code t).reply ≡ accepted_with a w
       → access_at m t ≡ access Complete (Completed n)
       → Owned n w (event m code t).machine
-  pub otherwise : (m : Machine) (code : ℕ) (t : ThreadNumber) (a : Answer) (w : Owner)
-      → (event m code t).reply ≡ Accepted a w
+  pub otherwise : (m : Machine) (code : ℕ) (t : ThreadNumber) (a : Answer) (w : Option ThreadNumber)
+      → (event m code t).reply ≡ accepted_with a w
       → (access_at m t).kind ≢ Complete
-      → w ≡ Nobody
+      → w ≡ None
 
 -- ── demand 2: one access a step ──
 
@@ -233,13 +231,13 @@ pub data NodeAfter (m : Machine) (t : ThreadNumber) (m' : Machine) (j : ℕ) : T
 
 -- how thread u's token stands after an event of t that woke w: as before; or u is t, at park, where
 -- park_takes_the_token gives its value; or u is woken
-pub data TokenAfter (m : Machine) (t : ThreadNumber) (w : Owner) (m' : Machine) (u : ℕ) : Type 0 where
+pub data TokenAfter (m : Machine) (t : ThreadNumber) (w : Option ThreadNumber) (m' : Machine) (u : ℕ) : Type 0 where
   kept : (thread_at m' u).token ≡ (thread_at m u).token → TokenAfter m t w m' u
   taken : u ≡ t.0 → takes_token (access_at m t).kind ≡ true → TokenAfter m t w m' u
-  set : w ≡ Thread (thread u) → (thread_at m' u).token ≡ true → TokenAfter m t w m' u
+  set : w ≡ Some (thread u) → (thread_at m' u).token ≡ true → TokenAfter m t w m' u
 
 -- the shared part changed at the place's access alone
-pub record AtAccess (m : Machine) (t : ThreadNumber) (w : Owner) (m' : Machine) : Type 0 where
+pub record AtAccess (m : Machine) (t : ThreadNumber) (w : Option ThreadNumber) (m' : Machine) : Type 0 where
   pub word : Unless (writes_word (access_at m t).kind) (m'.word ≡ m.word)
   pub nodes : (j : ℕ) → NodeAfter m t m' j
   pub tokens : (u : ℕ) → TokenAfter m t w m' u
@@ -248,9 +246,9 @@ pub record AtAccess (m : Machine) (t : ThreadNumber) (w : Owner) (m' : Machine) 
 -- being filled
 abbrev pub OneAccess : Program → Type 0
 OneAccess event =
-    (m : Machine) (code : ℕ) (t : ThreadNumber) (a : Answer) (w : Owner)
+    (m : Machine) (code : ℕ) (t : ThreadNumber) (a : Answer) (w : Option ThreadNumber)
     → steps code ≡ true
-    → (event m code t).reply ≡ Accepted a w
+    → (event m code t).reply ≡ accepted_with a w
     → AtAccess m t w (event m code t).machine
 
 -- a begin changes nothing shared
@@ -261,33 +259,33 @@ pub record NothingShared (m m' : Machine) : Type 0 where
 
 abbrev pub BeginSharesNothing : Program → Type 0
 BeginSharesNothing event =
-    (m : Machine) (code : ℕ) (t : ThreadNumber) (a : Answer) (w : Owner)
+    (m : Machine) (code : ℕ) (t : ThreadNumber) (a : Answer) (w : Option ThreadNumber)
     → begins code ≡ true
-    → (event m code t).reply ≡ Accepted a w
+    → (event m code t).reply ≡ accepted_with a w
     → NothingShared m (event m code t).machine
 
 -- code 17 on a weak compare leaves the word, and every node but the own unregistered one, as they are
 abbrev pub FailureWritesNothing : Program → Type 0
 FailureWritesNothing event =
-    (m : Machine) (t : ThreadNumber) (a : Answer) (w : Owner)
+    (m : Machine) (t : ThreadNumber) (a : Answer) (w : Option ThreadNumber)
     → (access_at m t).kind ≡ WeakCompare
-    → (event m 17 t).reply ≡ Accepted a w
+    → (event m 17 t).reply ≡ accepted_with a w
     → ((event m 17 t).machine.word ≡ m.word)
     × ((j : ℕ) → (node_at (event m 17 t).machine j ≡ node_at m j) ⊎ ((j ≡ t.0) × (fills (place_of m t) ≡ true)))
 
 -- an event changes at most the word, one node, its own thread's record and the token of the thread it wakes
-pub record Little (m : Machine) (t : ThreadNumber) (w : Owner) (m' : Machine) : Type 0 where
+pub record Little (m : Machine) (t : ThreadNumber) (w : Option ThreadNumber) (m' : Machine) : Type 0 where
   pub count : m'.count ≡ m.count
   pub node : ℕ
   pub nodes : (j : ℕ) → (j ≡ node → ⊥) → node_at m' j ≡ node_at m j
   pub places : (u : ℕ) → (u ≡ t.0 → ⊥) → (thread_at m' u).place ≡ (thread_at m u).place
   pub holdings : (u : ℕ) → (u ≡ t.0 → ⊥) → (thread_at m' u).holding ≡ (thread_at m u).holding
-  pub tokens : (u : ℕ) → (u ≡ t.0 → ⊥) → (w ≡ Thread (thread u) → ⊥) → (thread_at m' u).token ≡ (thread_at m u).token
+  pub tokens : (u : ℕ) → (u ≡ t.0 → ⊥) → (w ≡ Some (thread u) → ⊥) → (thread_at m' u).token ≡ (thread_at m u).token
 
 abbrev pub ChangesLittle : Program → Type 0
 ChangesLittle event =
-    (m : Machine) (code : ℕ) (t : ThreadNumber) (a : Answer) (w : Owner)
-    → (event m code t).reply ≡ Accepted a w
+    (m : Machine) (code : ℕ) (t : ThreadNumber) (a : Answer) (w : Option ThreadNumber)
+    → (event m code t).reply ≡ accepted_with a w
     → Little m t w (event m code t).machine
 
 -- the arrays keep their length
@@ -312,9 +310,9 @@ RefusedHasNoEffect =
 -- a holding changes only at an access that writes the word, or at a contended reader's subtraction
 abbrev pub HoldingChangesAtTheWord : Program → Type 0
 HoldingChangesAtTheWord event =
-    (m : Machine) (code : ℕ) (t : ThreadNumber) (a : Answer) (w : Owner)
+    (m : Machine) (code : ℕ) (t : ThreadNumber) (a : Answer) (w : Option ThreadNumber)
     → Sized m
-    → (event m code t).reply ≡ Accepted a w
+    → (event m code t).reply ≡ accepted_with a w
     → (u : ℕ)
     → ((thread_at (event m code t).machine u).holding ≡ (thread_at m u).holding)
     ⊎ ((u ≡ t.0) × ((writes_word (access_at m t).kind ≡ true) ⊎ (subtracting (place_of m t) ≡ true)))
@@ -322,10 +320,10 @@ HoldingChangesAtTheWord event =
 -- and there the word does change, wherever queue.rs's own assertions hold
 abbrev pub HoldingChangesWithTheWord : Program → Type 0
 HoldingChangesWithTheWord event =
-    (m : Machine) (code : ℕ) (t : ThreadNumber) (a : Answer) (w : Owner)
+    (m : Machine) (code : ℕ) (t : ThreadNumber) (a : Answer) (w : Option ThreadNumber)
     → Sized m
     → asserted (place_of m t) ≡ true
-    → (event m code t).reply ≡ Accepted a w
+    → (event m code t).reply ≡ accepted_with a w
     → (u : ℕ)
     → ((thread_at (event m code t).machine u).holding ≡ (thread_at m u).holding)
     ⊎ ((u ≡ t.0) × ((word_changed m (event m code t).machine ≡ true) ⊎ (subtracting (place_of m t) ≡ true)))
@@ -333,9 +331,9 @@ HoldingChangesWithTheWord event =
 -- yes is answered exactly at the grant of a try, done of read and write exactly at the call's grant
 abbrev pub AnsweredAtTheGrant : Program → Type 0
 AnsweredAtTheGrant event =
-    (m : Machine) (code : ℕ) (t : ThreadNumber) (a : Answer) (w : Owner)
+    (m : Machine) (code : ℕ) (t : ThreadNumber) (a : Answer) (w : Option ThreadNumber)
     → Sized m
-    → (event m code t).reply ≡ Accepted a w
+    → (event m code t).reply ≡ accepted_with a w
     → (is_yes a ≡ and (tries (place_of m t)) (grants (effect_of t m (event m code t).machine).lock))
     × (Unless (not (acquires (place_of m t))) (is_done a ≡ grants (effect_of t m (event m code t).machine).lock))
 

@@ -5,7 +5,7 @@
 -- the words that the lock's rules make (word, Rules.antt); the refusals (Refusals.antt). That a step follows the tables
 -- is said in Statements.antt.
 -- Assumes nothing.
-use Rattle.std.specs.Prelude.{ℕ, ◌+◌, ◌-◌, Bool, true, false, not, eqb}
+use Rattle.std.specs.Prelude.{ℕ, ◌+◌, ◌-◌, Bool, true, false, not, eqb, Option, Some, None}
 use Rattle.word.specs.Base.{pick}
 use Rattle.word.specs.Flags.{word, LOCKED, SINGLE, locked, queued, queue_locked, downgraded}
 use Rattle.word.specs.Flags.{clear_locked, set_locked, clear_queue_locked, set_queue_locked, set_downgraded}
@@ -13,8 +13,6 @@ use Rattle.word.specs.Rules.{read_lock_of, registered_of, taken_of, read_unlock_
 use Rattle.word.specs.declared.flags.Word.{Word}
 use Rattle.word.specs.declared.number.NodeNumber.{NodeNumber}
 use Rattle.word.specs.declared.number.ThreadNumber.{ThreadNumber}
-use Rattle.word.specs.declared.rules.ReadLocked.{ReadLocked}
-use Rattle.word.specs.declared.rules.ReadLocked.TheVariants.{To as ReadTo, Refused as ReadRefused}
 use Rattle.word.specs.declared.rules.ReadUnlocked.{ReadUnlocked}
 use Rattle.word.specs.declared.rules.ReadUnlocked.TheVariants.{To as UnlockTo, Contended, Refused as UnlockRefused}
 use Rattle.state.specs.Machine.{thread_at, node_at}
@@ -25,8 +23,6 @@ use Rattle.state.specs.declared.machine.Machine.{Machine}
 use Rattle.state.specs.declared.place.Place.{Place}
 use Rattle.state.specs.declared.place.Place.TheVariants as At
 use Rattle.acquire.specs.LockContended.{permitted_of}
-use Rattle.acquire.specs.declared.lock_contended.Permitted.{Permitted}
-use Rattle.acquire.specs.declared.lock_contended.Permitted.TheVariants.{To as PermitTo, Refused as PermitRefused}
 use Rattle.promises.specs.Refusals.{and}
 
 -- ── what is found ──
@@ -148,13 +144,13 @@ abbrev pub compared : Bool → ℕ → ℕ → ℕ → ℕ
 compared fails found seen new = pick (pick fails false (eqb found seen)) new found
 
 -- the word that read_lock, the lock rule of a call and read_unlock make of the one seen; that one where they refuse
-abbrev pub read_to : Word → ReadLocked → ℕ
-read_to seen (ReadTo to) = to.0
-read_to seen ReadRefused = seen.0
+abbrev pub read_to : Word → Option Word → ℕ
+read_to seen (Some to) = to.0
+read_to seen None = seen.0
 
-abbrev pub permit_to : Word → Permitted → ℕ
-permit_to seen (PermitTo to) = to.0
-permit_to seen PermitRefused = seen.0
+abbrev pub permit_to : Word → Option Word → ℕ
+permit_to seen (Some to) = to.0
+permit_to seen None = seen.0
 
 abbrev pub unlock_to : Word → ReadUnlocked → ℕ
 unlock_to seen (UnlockTo to) = to.0

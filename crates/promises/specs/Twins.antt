@@ -2,7 +2,7 @@
 -- rules. In order: what is told of two steps; rules at the word; every place.
 -- Not here: the machines that the views are of (ReadsOneAccess.antt); the value at an access (Values.antt).
 -- Assumes nothing.
-use Rattle.std.specs.Prelude.{ℕ, Bool, false, ◌⊎◌, ◌≡◌, eqb, ltb}
+use Rattle.std.specs.Prelude.{ℕ, Bool, false, ◌⊎◌, ◌≡◌, eqb, ltb, Err, Ok, Option, Some, None}
 use Rattle.std.proofs.Math.Bool.{true}
 use Rattle.std.proofs.Math.Logic.{inl}
 use Rattle.std.proofs.Common.{inr, sym, ap}
@@ -13,16 +13,12 @@ use Rattle.word.specs.Number.{is_none, node, node_of}
 use Rattle.word.specs.Rules.{read_lock_of, read_unlock_of}
 use Rattle.word.specs.declared.flags.Word.{Word}
 use Rattle.word.specs.declared.number.NodeNumber.{NodeNumber}
-use Rattle.word.specs.declared.number.Owner.{Owner}
-use Rattle.word.specs.declared.number.Owner.TheVariants.{Nobody}
 use Rattle.word.specs.declared.number.ThreadNumber.{ThreadNumber}
-use Rattle.word.specs.declared.rules.ReadLocked.{ReadLocked}
-use Rattle.word.specs.declared.rules.ReadLocked.TheVariants.{To as ReadTo, Refused as ReadRefused}
 use Rattle.word.specs.declared.rules.ReadUnlocked.{ReadUnlocked}
 use Rattle.word.specs.declared.rules.ReadUnlocked.TheVariants.{To as UnlockTo, Contended, Refused as UnlockRefused}
 use Rattle.state.specs.Access.{access_of}
 use Rattle.state.specs.Node.{with_next, with_prev, with_tail}
-use Rattle.state.specs.View.{agrees_of}
+use Rattle.state.specs.View.{agrees_of, Stepped}
 use Rattle.state.specs.declared.access.Location.{Location}
 use Rattle.state.specs.declared.access.Location.TheVariants.{Word as TheWord, Next, Prev, Tail, Completed}
 use Rattle.state.specs.declared.access.Location.TheVariants.{Token}
@@ -37,13 +33,9 @@ use Rattle.state.specs.declared.place.Who.{Who}
 use Rattle.state.specs.declared.view.Change.{Change}
 use Rattle.state.specs.declared.view.Mark.{Mark}
 use Rattle.state.specs.declared.view.Mark.TheVariants.{Missing, Reader, Writer}
-use Rattle.state.specs.declared.view.Stepped.{Stepped}
-use Rattle.state.specs.declared.view.Stepped.TheVariants.{To, Refused}
 use Rattle.state.specs.declared.view.View.{View}
 use Rattle.acquire.specs.LockContended.{permitted_of, contend_by, contend_cas_by, spin_count}
 use Rattle.acquire.specs.TryRead.{try_read_by, try_read_cas_by}
-use Rattle.acquire.specs.declared.lock_contended.Permitted.{Permitted}
-use Rattle.acquire.specs.declared.lock_contended.Permitted.TheVariants.{To as PermitTo, Refused as PermitRefused}
 use Rattle.unlock.specs.AfterWalk.{marked_by}
 use Rattle.release.specs.ReadUnlock.{read_unlock_by, read_unlock_cas_by}
 use Rattle.lock.specs.Advance.{advance_of}
@@ -62,7 +54,7 @@ pub record Told : Type 0 where
   pub place : Place
   pub holding : Holding
   pub answer : Answer
-  pub woken : Owner
+  pub woken : Option ThreadNumber
   pub value : ℕ
 
 abbrev pub told_of : Location → Change → Told
@@ -77,14 +69,14 @@ told_of l c =
 
 -- a call that goes on at a place, with the value y at its access
 abbrev went_to : Holding → Place → ℕ → Told
-went_to h p y = record { place = p; holding = h; answer = Went; woken = Nobody; value = y }
+went_to h p y = record { place = p; holding = h; answer = Went; woken = None; value = y }
 
 -- two steps whose access lies at a location, from own nodes n and n'
 abbrev pub Twin : Location → Node → Node → Stepped → Stepped → Type 0
-Twin l n n' (To c) (To c') = (told_of l c ≡ told_of l c') × FilledAlike l n n' c.node c'.node × Quiet l c.woken
-Twin l n n' (To c) (Refused r) = ⊥
-Twin l n n' (Refused r) (To c) = ⊥
-Twin l n n' (Refused r) (Refused r') = r ≡ r'
+Twin l n n' (Ok c) (Ok c') = (told_of l c ≡ told_of l c') × FilledAlike l n n' c.node c'.node × Quiet l c.woken
+Twin l n n' (Ok c) (Err r) = ⊥
+Twin l n n' (Err r) (Ok c) = ⊥
+Twin l n n' (Err r) (Err r') = r ≡ r'
 
 both : {A : Type 0} (R : A → A → Type 0) (b : Bool) {x y x' y' : A} → R x x' → R y y' → R (pick b x y) (pick b x' y')
 both R true f g = f
@@ -120,27 +112,27 @@ module _ (t : ThreadNumber) (fails : Bool) (h : Holding) (n n' : Node) (k k' : M
   abbrev AtWord : Place → Type 0
   AtWord p = R (advance_of v p) (advance_of v' p)
 
-  try_read_by_lem : (blocking : Bool) (r : ReadLocked) → R (try_read_by v blocking w r) (try_read_by v' blocking w r)
-  try_read_by_lem blocking (ReadTo to) = (refl, inl (refl, refl), tt)
-  try_read_by_lem blocking ReadRefused = (refl, inl (refl, refl), tt)
+  try_read_by_lem : (blocking : Bool) (r : Option Word) → R (try_read_by v blocking w r) (try_read_by v' blocking w r)
+  try_read_by_lem blocking (Some to) = (refl, inl (refl, refl), tt)
+  try_read_by_lem blocking None = (refl, inl (refl, refl), tt)
 
-  try_read_cas_by_lem : (blocking : Bool) (r : ReadLocked)
+  try_read_cas_by_lem : (blocking : Bool) (r : Option Word)
       → R (try_read_cas_by v blocking r) (try_read_cas_by v' blocking r)
-  try_read_cas_by_lem blocking (ReadTo to) = (refl, inl (refl, refl), tt)
-  try_read_cas_by_lem blocking ReadRefused = try_read_by_lem blocking (read_lock_of w)
+  try_read_cas_by_lem blocking (Some to) = (refl, inl (refl, refl), tt)
+  try_read_cas_by_lem blocking None = try_read_by_lem blocking (read_lock_of w)
 
-  contend_by_lem : (writer : Bool) (reloads : ℕ) (r : Permitted)
+  contend_by_lem : (writer : Bool) (reloads : ℕ) (r : Option Word)
       → R (contend_by v writer reloads w r) (contend_by v' writer reloads w r)
-  contend_by_lem writer reloads (PermitTo to) = (refl, inl (refl, refl), tt)
-  contend_by_lem writer reloads PermitRefused =
+  contend_by_lem writer reloads (Some to) = (refl, inl (refl, refl), tt)
+  contend_by_lem writer reloads None =
       both R (queued w)
       (refl, inr refl, tt)
       (both R (ltb reloads spin_count) (refl, inl (refl, refl), tt) (refl, inr refl, tt))
 
-  contend_cas_by_lem : (writer : Bool) (reloads : ℕ) (r : Permitted)
+  contend_cas_by_lem : (writer : Bool) (reloads : ℕ) (r : Option Word)
       → R (contend_cas_by v writer reloads r) (contend_cas_by v' writer reloads r)
-  contend_cas_by_lem writer reloads (PermitTo to) = (refl, inl (refl, refl), tt)
-  contend_cas_by_lem writer reloads PermitRefused = contend_by_lem writer reloads (permitted_of writer w)
+  contend_cas_by_lem writer reloads (Some to) = (refl, inl (refl, refl), tt)
+  contend_cas_by_lem writer reloads None = contend_by_lem writer reloads (permitted_of writer w)
 
   read_unlock_by_lem : (r : ReadUnlocked) → R (read_unlock_by v w r) (read_unlock_by v' w r)
   read_unlock_by_lem (UnlockTo to) = (refl, inl (refl, refl), tt)

@@ -2,11 +2,9 @@
 -- view or a change; a token accessed is one's own; the value before; what is stored, and the value after.
 -- Not here: the value at a location of a machine, as the statements read it (Tables.antt).
 -- Assumes nothing.
-use Rattle.std.specs.Prelude.{ℕ, ◌+◌, ◌<◌, Bool, true, false, ◌≡◌, refl, get_or}
+use Rattle.std.specs.Prelude.{ℕ, ◌+◌, ◌<◌, Bool, true, false, ◌≡◌, refl, get_or, Option, None}
 use Rattle.std.proofs.Common.{ap, ◌∙◌, arith, get_or-set_same}
 use Rattle.word.specs.declared.flags.Word.{Word}
-use Rattle.word.specs.declared.number.Owner.{Owner}
-use Rattle.word.specs.declared.number.Owner.TheVariants.{Nobody}
 use Rattle.word.specs.declared.number.ThreadNumber.{ThreadNumber}
 use Rattle.state.specs.Access.{access_of, touched_at}
 use Rattle.state.specs.Machine.{Sized, thread_limit, thread_at, node_at, blank_thread}
@@ -88,8 +86,8 @@ AtToken (Completed k) X = Unit {0}
 AtToken (Token u) X = X u
 
 -- nobody is woken by it
-abbrev pub Quiet : Location → Owner → Type 0
-Quiet l w = AtToken l (λ u. w ≡ Nobody)
+abbrev pub Quiet : Location → Option ThreadNumber → Type 0
+Quiet l w = AtToken l (λ u. w ≡ None)
 
 -- it is the own one
 abbrev pub TokenOwn : Location → ThreadNumber → Type 0
@@ -191,5 +189,5 @@ module _ (m : Machine) (t : ThreadNumber) where
         ap (λ (x : Node). bit x.completed) stored_node
     stored_value (Token u) e o q =
         ap (λ (j : ThreadNumber). bit (thread_at (storing k c) j.0).token) o ∙
-        (ap (λ (x : Owner). bit (thread_at (woken_of (stored_of m t.0 k c) x) t.0).token) q ∙
+        (ap (λ (x : Option ThreadNumber). bit (thread_at (woken_of (stored_of m t.0 k c) x) t.0).token) q ∙
         ap (λ (x : Thread). bit x.token) stored_thread)

@@ -5,23 +5,21 @@
 -- Not here, since they break a statement over runs or files: the replayer that invents the number of events run (crate
 -- schedule, WrongReplay.antt); counting readers in the word while QUEUED is set (crate safety, WrongRuns.antt).
 -- Assumes nothing.
-use Rattle.std.specs.Prelude.{ℕ, Bool, true, false, not, ◌≡◌, refl, eqb}
+use Rattle.std.specs.Prelude.{ℕ, Bool, true, false, not, ◌≡◌, refl, eqb, Err, Ok, Option, Some, None}
 use Rattle.std.proofs.lemmas.Bool.{false≢true}
 use Rattle.std.proofs.Common.{sym, ap, arith}
 use Rattle.word.specs.Base.{pick}
 use Rattle.word.specs.Flags.{word, queue_locked, downgraded}
 use Rattle.word.specs.Number.{thread, node}
-use Rattle.word.specs.declared.number.Owner.{Owner}
-use Rattle.word.specs.declared.number.Owner.TheVariants.{Nobody, Thread as Somebody}
+use Rattle.word.specs.declared.number.ThreadNumber.{ThreadNumber}
+use Rattle.state.specs.Answer.{Reply, accepted_with}
 use Rattle.state.specs.Access.{access_of}
 use Rattle.state.specs.Machine.{refused_of}
 use Rattle.state.specs.Node.{with_completed}
-use Rattle.state.specs.View.{at, end, stays}
+use Rattle.state.specs.View.{at, end, stays, Stepped}
 use Rattle.state.specs.declared.answer.Answer.{Answer}
 use Rattle.state.specs.declared.answer.Answer.TheVariants.{Begun, Went, Done, Yes, No}
 use Rattle.state.specs.declared.answer.Refusal.TheVariants.{UnknownCode}
-use Rattle.state.specs.declared.answer.Reply.{Reply}
-use Rattle.state.specs.declared.answer.Reply.TheVariants.{Accepted, Refused}
 use Rattle.state.specs.declared.holding.Holding.TheVariants.{Nothing, Read, Write}
 use Rattle.state.specs.declared.machine.Machine.{Machine}
 use Rattle.state.specs.declared.node.Node.{Node}
@@ -30,8 +28,6 @@ use Rattle.state.specs.declared.place.Place.TheVariants as At
 use Rattle.state.specs.declared.place.Walk.TheVariants.{Queue}
 use Rattle.state.specs.declared.place.Who.TheVariants.{Leaver}
 use Rattle.state.specs.declared.view.Change.{Change}
-use Rattle.state.specs.declared.view.Stepped.{Stepped}
-use Rattle.state.specs.declared.view.Stepped.TheVariants.{To, Refused as Denied}
 use Rattle.state.specs.declared.view.View.{View}
 use Rattle.lock.specs.Advance.{advance_of}
 use Rattle.lock.specs.Effect.{lock_effect, queue_effect, stand_of}
@@ -61,8 +57,8 @@ refuses_everything_refuted holds = false≢true (ap (λ n. eqb n 0) (holds (stan
 
 -- answers went each time
 abbrev went_reply : Reply → Reply
-went_reply (Accepted a w) = Accepted Went w
-went_reply (Refused r) = Refused r
+went_reply (Ok told) = accepted_with Went told.woken
+went_reply (Err r) = Err r
 
 abbrev pub went_each_time : Program
 went_each_time m code t = record { machine = (event_of m code t).machine; reply = went_reply (event_of m code t).reply }
@@ -71,7 +67,7 @@ pub went_each_time_refuted : EndsExactly went_each_time → ⊥
 unfolding event_of step_of advance_of access_of marked_of
 went_each_time_refuted holds =
     let p = At.TryWriteOr false in
-    let after = holds.step (standing 1 p Nothing) 16 only Went Nobody (sized 1 p Nothing false 0 false) refl refl in
+    let after = holds.step (standing 1 p Nothing) 16 only Went None (sized 1 p Nothing false 0 false) refl refl in
     false≢true (sym after.idle)
 
 -- never moves
@@ -82,7 +78,7 @@ pub never_moves_refuted : EndsExactly never_moves → ⊥
 unfolding event_of step_of advance_of access_of marked_of tries
 never_moves_refuted holds =
     let p = At.Idle in
-    let after = holds.begin (standing 0 p Nothing) 2 only Begun Nobody (sized 0 p Nothing false 0 false) refl refl in
+    let after = holds.begin (standing 0 p Nothing) 2 only Begun None (sized 0 p Nothing false 0 false) refl refl in
     false≢true (ap tries after.place)
 
 -- finishes a call at its first step, and idles later
@@ -93,25 +89,25 @@ pub finishes_at_the_first_step_refuted : AnsweredAtTheGrant finishes_at_the_firs
 unfolding access_of marked_of acquires lock_effect
 finishes_at_the_first_step_refuted holds =
     let p = At.TryReadLoad true in
-    false≢true (sym (holds (standing 0 p Nothing) 16 only Done Nobody (sized 0 p Nothing false 0 false) refl).1)
+    false≢true (sym (holds (standing 0 p Nothing) 16 only Done None (sized 0 p Nothing false 0 false) refl).1)
 
 -- ── what students' programs do wrong ──
 
 -- waking on a retracted downgrade: a read_unlock that clears DOWNGRADED wakes a thread
 abbrev pub wakes_on_a_retracted_downgrade : Program
 wakes_on_a_retracted_downgrade =
-    program_of (changed_at 22 (λ v s. pick (downgraded v.word) (waking (Somebody (thread 0)) s) s))
+    program_of (changed_at 22 (λ v s. pick (downgraded v.word) (waking (Some (thread 0)) s) s))
 
-is_nobody : Owner → Bool
-is_nobody Nobody = true
-is_nobody (Somebody t) = false
+is_nobody : Option ThreadNumber → Bool
+is_nobody None = true
+is_nobody (Some t) = false
 
 pub wakes_on_a_retracted_downgrade_refuted : WokenIsTheOwner wakes_on_a_retracted_downgrade → ⊥
 unfolding advance_of access_of marked_of which is_nobody
 wakes_on_a_retracted_downgrade_refuted holds =
     let p = At.ReadUnlockCas (word 31) in
-    let woken = holds.otherwise (standing 31 p Read) 16 only Done (Somebody (thread 0)) refl in
-    false≢true (ap is_nobody (woken (λ e. let bad : ◌≡◌ {A = ℕ} 0 1 = cc in omega arith)))
+    let woken = holds.otherwise (standing 31 p Read) 16 only Done (Some (thread 0)) refl in
+    false≢true (ap is_nobody (woken (λ e. cc)))
 
 -- restoring the new head's tail after a failed split
 unfoldable pub at_new_head : Place → Place
@@ -156,7 +152,7 @@ unfolding advance_of access_of marked_of at_new_head goes_by restores_at
 restores_the_new_heads_tail_refuted holds =
     let p = At.SplitCas Leaver (word 22) (node 1) in
     let m = standing 38 p Nothing in
-    let after = holds m 16 only Went Nobody (sized 38 p Nothing false 0 false) refl refl (word 38) in
+    let after = holds m 16 only Went None (sized 38 p Nothing false 0 false) refl refl (word 38) in
     false≢true (ap (λ s. eqb (seen_number s) 22) (after.1 refl))
 
 -- reading prev after completing a node: completed is stored where prev is to be loaded
@@ -168,7 +164,7 @@ is_completed n = n.completed
 
 pub reads_prev_after_completing_refuted : OneAccess reads_prev_after_completing → ⊥
 unfolding advance_of access_of marked_of which fills
-reads_prev_after_completing_refuted holds = by ((holds m 16 only Went Nobody refl refl).nodes 0)
+reads_prev_after_completing_refuted holds = by ((holds m 16 only Went None refl refl).nodes 0)
   where
     m : Machine
     m = standing 0 (At.WakePrev Leaver (node 1)) Nothing
@@ -182,7 +178,7 @@ reads_prev_after_completing_refuted holds = by ((holds m 16 only Went Nobody ref
 abbrev pub fails_a_strong_compare : Program
 fails_a_strong_compare m code t =
     pick (eqb code 17)
-    (pick (eqb (which (place_of m t)) 24) (record { machine = m; reply = Accepted Went Nobody }) (event_of m code t))
+    (pick (eqb (which (place_of m t)) 24) (record { machine = m; reply = accepted_with Went None }) (event_of m code t))
     (event_of m code t)
 
 pub fails_a_strong_compare_refuted : RefusalTable fails_a_strong_compare → ⊥
@@ -202,7 +198,7 @@ read_unlock_done_at_its_load_refuted holds =
     let p = At.ReadUnlockLoad in
     false≢true
     (ap (λ q. eqb (which q) 22)
-    (holds (standing 17 p Read) 16 only Done Nobody (sized 17 p Read false 0 false) refl refl))
+    (holds (standing 17 p Read) 16 only Done None (sized 17 p Read false 0 false) refl refl))
 
 -- a refused try_write ends with went
 abbrev no_is_went : Answer → Answer
@@ -219,7 +215,7 @@ pub refused_try_write_ends_with_went_refuted : EndsExactly refused_try_write_end
 unfolding advance_of access_of marked_of which
 refused_try_write_ends_with_went_refuted holds =
     let p = At.TryWriteOr false in
-    let after = holds.step (standing 1 p Nothing) 16 only Went Nobody (sized 1 p Nothing false 0 false) refl refl in
+    let after = holds.step (standing 1 p Nothing) 16 only Went None (sized 1 p Nothing false 0 false) refl refl in
     false≢true (sym after.idle)
 
 -- try_write blocks
@@ -230,7 +226,7 @@ pub try_write_blocks_refuted : EndsExactly try_write_blocks → ⊥
 unfolding event_of step_of advance_of access_of marked_of tries
 try_write_blocks_refuted holds =
     let p = At.Idle in
-    let after = holds.begin (standing 0 p Nothing) 3 only Begun Nobody (sized 0 p Nothing false 0 false) refl refl in
+    let after = holds.begin (standing 0 p Nothing) 3 only Begun None (sized 0 p Nothing false 0 false) refl refl in
     false≢true (ap tries after.place)
 
 -- a step that goes on answers begun
@@ -248,7 +244,7 @@ pub begun_at_a_step_refuted : EndsExactly begun_at_a_step → ⊥
 unfolding advance_of access_of marked_of
 begun_at_a_step_refuted holds =
     let p = At.TryReadLoad true in
-    let after = holds.step (standing 0 p Nothing) 16 only Begun Nobody (sized 0 p Nothing false 0 false) refl refl in
+    let after = holds.step (standing 0 p Nothing) 16 only Begun None (sized 0 p Nothing false 0 false) refl refl in
     false≢true after.went
 
 -- ── rules that read more than their access ──
@@ -269,7 +265,7 @@ subtraction_reads_the_word_refuted holds =
       place = refl;
       holding = refl;
       value = refl;
-      mark = λ who seen tail e. let bad : ◌≡◌ {A = ℕ} 0 1 = cc in absurd (omega arith);
+      mark = λ who seen tail e. absurd (cc);
     }) in
     false≢true (sym (ap (λ n. eqb n 16) same.value))
 
@@ -290,7 +286,7 @@ completed_load_reads_the_token_refuted holds =
       place = refl;
       holding = refl;
       value = refl;
-      mark = λ who seen tail e. let bad : ◌≡◌ {A = ℕ} 0 1 = cc in absurd (omega arith);
+      mark = λ who seen tail e. absurd (cc);
     }) in
     false≢true (ap (λ q. eqb (which q) 7) same.place)
 
@@ -298,8 +294,8 @@ completed_load_reads_the_token_refuted holds =
 
 -- a release whose compare failed is judged again on the word that it had, not on the one reported
 abbrev judged_again : View → Place → Stepped → Stepped
-judged_again v p (To c) = pick (eqb (which c.thread.place) 25) (stays v (at p)) (To c)
-judged_again v p (Denied r) = Denied r
+judged_again v p (Ok c) = pick (eqb (which c.thread.place) 25) (stays v (at p)) (Ok c)
+judged_again v p (Err r) = Err r
 
 abbrev pub keeps_its_word : Program
 keeps_its_word = program_of (λ v p. pick (eqb (which p) 25) (judged_again v p (advance_of v p)) (advance_of v p))
@@ -308,7 +304,7 @@ pub keeps_its_word_refuted : SeenIsTheLastWord keeps_its_word → ⊥
 unfolding advance_of access_of marked_of which goes_by queue_effect stand_of
 keeps_its_word_refuted holds =
     let p = At.ReleaseCas (word 7) in
-    let after = holds (standing 3 p Write) 16 only Went Nobody (sized 3 p Write false 0 false) refl refl (word 7) in
+    let after = holds (standing 3 p Write) 16 only Went None (sized 3 p Write false 0 false) refl refl (word 7) in
     false≢true (sym (ap (λ s. eqb (seen_number s) 7) (after.0 refl)))
 
 -- ── rules that treat the token wrongly ──
@@ -322,7 +318,7 @@ unfolding advance_of access_of marked_of which
 park_for_no_cause_takes_the_token_refuted holds =
     let p = At.Park false in
     let m = machine_at 0 p Nothing true 0 false in
-    false≢true (holds.leaves m only Went Nobody (sized 0 p Nothing true 0 false) refl refl)
+    false≢true (holds.leaves m only Went None (sized 0 p Nothing true 0 false) refl refl)
 
 -- code 16 at park keeps it
 abbrev pub park_keeps_its_token : Program
@@ -333,7 +329,7 @@ unfolding advance_of access_of marked_of which
 park_keeps_its_token_refuted holds =
     let p = At.Park false in
     let m = machine_at 0 p Nothing true 0 false in
-    false≢true (sym (holds.clears m only Went Nobody (sized 0 p Nothing true 0 false) refl refl))
+    false≢true (sym (holds.clears m only Went None (sized 0 p Nothing true 0 false) refl refl))
 
 -- ── rules that only the tables tell from the right ones ──
 
@@ -346,7 +342,7 @@ unfolding advance_of access_of marked_of which left_by
 never_succeeds_refuted holds =
     let p = At.TryReadCas false (word 0) in
     false≢true
-    (ap (λ n. eqb n 17) (holds (standing 0 p Nothing) 16 only Went Nobody (sized 0 p Nothing false 0 false) refl refl))
+    (ap (λ n. eqb n 17) (holds (standing 0 p Nothing) 16 only Went None (sized 0 p Nothing false 0 false) refl refl))
 
 -- a read that tries for ever
 abbrev pub tries_for_ever : Program
@@ -358,7 +354,7 @@ tries_for_ever_refuted holds =
     let p = At.TryReadLoad true in
     false≢true
     (ap (λ q. eqb (which q) 4)
-    (holds (standing 1 p Nothing) 16 only Went Nobody (sized 1 p Nothing false 0 false) refl refl))
+    (holds (standing 1 p Nothing) 16 only Went None (sized 1 p Nothing false 0 false) refl refl))
 
 -- a queue never split: every tail's mark is read as a reader's
 abbrev pub never_splits : Program
@@ -369,7 +365,7 @@ unfolding advance_of access_of marked_of which goes_to
 never_splits_refuted holds =
     let p = At.WalkHead (Queue Leaver) (word 22) (node 1) in
     let m = machine_at 22 p Nothing false 0 true in
-    let after = holds m 16 only Went Nobody (sized 22 p Nothing false 0 true) refl refl in
+    let after = holds m 16 only Went None (sized 22 p Nothing false 0 true) refl refl in
     false≢true (sym (ap (λ q. eqb (which q) 18) after))
 
 -- the writer mark of a filled node turned round
@@ -391,5 +387,5 @@ unfolding advance_of access_of marked_of which node_for
 turns_the_mark_refuted holds =
     let p = At.ContendLoad true 7 in
     let m = standing 1 p Nothing in
-    let filling = holds m 16 only Went Nobody (sized 1 p Nothing false 0 false) refl refl refl in
+    let filling = holds m 16 only Went None (sized 1 p Nothing false 0 false) refl refl refl in
     false≢true (ap (λ (n : Node). n.writer) filling)

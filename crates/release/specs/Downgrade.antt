@@ -6,13 +6,12 @@ use Rattle.word.specs.Base.{pick}
 use Rattle.word.specs.Flags.{word, LOCKED, SINGLE, queue_locked, set_downgraded}
 use Rattle.word.specs.declared.flags.Word.{Word}
 use Rattle.state.specs.Holding.{downgraded_to}
-use Rattle.state.specs.View.{at, end, walk_from, agrees_of, stays, writes}
+use Rattle.state.specs.View.{at, end, walk_from, agrees_of, stays, writes, Stepped}
 use Rattle.state.specs.declared.answer.Answer.TheVariants.{Done}
 use Rattle.state.specs.declared.place.Walk.TheVariants.{Downgrade}
 use Rattle.state.specs.declared.place.Place.TheVariants.{DowngradeSlowCas}
 use Rattle.state.specs.declared.view.View.{View}
 use Rattle.state.specs.declared.view.Next.{Next}
-use Rattle.state.specs.declared.view.Stepped.{Stepped}
 
 abbrev pub downgrade_cas_of : View → Stepped
 downgrade_cas_of v =

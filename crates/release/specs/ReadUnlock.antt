@@ -1,6 +1,6 @@
 -- read_unlock: by the word, or find tail and subtract 16 from its next; a result of 0 goes on to release.
 -- Assumes nothing.
-use Rattle.std.specs.Prelude.{ℕ, ◌-◌, ltb, eqb}
+use Rattle.std.specs.Prelude.{ℕ, ◌-◌, ltb, eqb, Err}
 use Rattle.word.specs.Base.{pick}
 use Rattle.word.specs.Flags.{word, SINGLE}
 use Rattle.word.specs.Rules.{read_unlock_of}
@@ -10,20 +10,18 @@ use Rattle.word.specs.declared.rules.ReadUnlocked.{ReadUnlocked}
 use Rattle.word.specs.declared.rules.ReadUnlocked.TheVariants.{To, Contended, Refused}
 use Rattle.state.specs.Holding.{released_read}
 use Rattle.state.specs.Node.{with_next}
-use Rattle.state.specs.View.{at, end, walk_from, agrees_of, stays, writes, subtracts}
+use Rattle.state.specs.View.{at, end, walk_from, agrees_of, stays, writes, subtracts, Stepped}
 use Rattle.state.specs.declared.answer.Answer.TheVariants.{Done}
 use Rattle.state.specs.declared.answer.Refusal.TheVariants.{Damaged}
 use Rattle.state.specs.declared.place.Walk.TheVariants.{ReadUnlock}
 use Rattle.state.specs.declared.place.Place.TheVariants.{ReadUnlockCas, ReleaseCas}
 use Rattle.state.specs.declared.view.View.{View}
 use Rattle.state.specs.declared.view.Next.{Next}
-use Rattle.state.specs.declared.view.Stepped.{Stepped}
-use Rattle.state.specs.declared.view.Stepped.TheVariants.{Refused as StepRefused}
 
 abbrev pub read_unlock_by : View → Word → ReadUnlocked → Stepped
 read_unlock_by v seen (To to) = stays v (at (ReadUnlockCas seen))
 read_unlock_by v seen Contended = stays v (walk_from ReadUnlock seen)
-read_unlock_by v seen Refused = StepRefused Damaged
+read_unlock_by v seen Refused = Err Damaged
 
 -- by the word last loaded or reported
 abbrev pub read_unlock_judged : View → Word → Stepped
@@ -51,7 +49,7 @@ after_subtract seen left = pick (eqb left 0) (at (ReleaseCas seen)) (end Done)
 abbrev pub subtract_of : View → Word → NodeNumber → Stepped
 subtract_of v seen tail =
     pick (ltb v.node.next.0 SINGLE)
-    (StepRefused Damaged)
+    (Err Damaged)
     (subtracts v
     (with_next v.node (word (v.node.next.0 - SINGLE)))
     (released_read v.holding)

@@ -5,14 +5,13 @@ use Rattle.word.specs.Base.{pick}
 use Rattle.word.specs.Flags.{queue_locked, clear_locked, set_queue_locked}
 use Rattle.word.specs.declared.flags.Word.{Word}
 use Rattle.state.specs.Holding.{released_write}
-use Rattle.state.specs.View.{at, end, walk_from, agrees_of, stays, writes}
+use Rattle.state.specs.View.{at, end, walk_from, agrees_of, stays, writes, Stepped}
 use Rattle.state.specs.declared.answer.Answer.TheVariants.{Done}
 use Rattle.state.specs.declared.place.Who.TheVariants.{Leaver}
 use Rattle.state.specs.declared.place.Walk.TheVariants.{Queue}
 use Rattle.state.specs.declared.place.Place.TheVariants.{ReleaseCas}
 use Rattle.state.specs.declared.view.View.{View}
 use Rattle.state.specs.declared.view.Next.{Next}
-use Rattle.state.specs.declared.view.Stepped.{Stepped}
 
 abbrev pub released_to : Word → Word
 released_to seen = pick (queue_locked seen) (clear_locked seen) (set_queue_locked (clear_locked seen))

@@ -4,11 +4,10 @@ use Rattle.std.specs.Prelude.{eqb}
 use Rattle.word.specs.Base.{pick}
 use Rattle.word.specs.Flags.{word, LOCKED}
 use Rattle.state.specs.Holding.{released_write}
-use Rattle.state.specs.View.{at, end, stays, writes}
+use Rattle.state.specs.View.{at, end, stays, writes, Stepped}
 use Rattle.state.specs.declared.answer.Answer.TheVariants.{Done}
 use Rattle.state.specs.declared.place.Place.TheVariants.{ReleaseCas}
 use Rattle.state.specs.declared.view.View.{View}
-use Rattle.state.specs.declared.view.Stepped.{Stepped}
 
 abbrev pub write_unlock_cas_of : View → Stepped
 write_unlock_cas_of v =

@@ -4,21 +4,16 @@ ghost use Rattle.std.specs.Prelude.{◌≡◌};
 ghost use Rattle.release.specs.Downgrade.{downgrade_cas_of, downgraded_word, after_downgrade, downgrade_slow_cas_of};
 
 use state::{Answer, Next, Place, Stepped, View, Walk};
-use word::Word;
+use word::{ONE_READER, ONE_WRITER, Word};
 
 pub fn downgrade_cas(v: View) -> Stepped
     ensures { result ≡ downgrade_cas_of v }
 {
-    let w = v.word;
-    if w.0 == Word::LOCKED {
-        let h = v.holding;
-        return v.writes(
-            Word(Word::SINGLE + Word::LOCKED),
-            h.downgraded(),
-            Next::end(Answer::Done),
-        );
+    if v.word == ONE_WRITER {
+        v.writes(ONE_READER, v.holding.downgraded(), Next::end(Answer::Done))
+    } else {
+        v.stays(Next::at(Place::DowngradeSlowCas { seen: v.word }))
     }
-    v.stays(Next::at(Place::DowngradeSlowCas { seen: w }))
 }
 
 // The word that downgrades the one seen: asked for where the queue is locked, else one reader's.
@@ -26,9 +21,10 @@ fn downgraded_word(seen: Word) -> Word
     ensures { result ≡ downgraded_word seen }
 {
     if seen.queue_locked() {
-        return seen.set_downgraded();
+        seen.set_downgraded()
+    } else {
+        ONE_READER
     }
-    Word(Word::SINGLE + Word::LOCKED)
 }
 
 // The queue that was taken off starts at the word seen: it is walked, then completed.
@@ -36,18 +32,22 @@ fn after_downgrade(seen: Word) -> Next
     ensures { result ≡ after_downgrade seen }
 {
     if seen.queue_locked() {
-        return Next::end(Answer::Done);
+        Next::end(Answer::Done)
+    } else {
+        Next::walk_from(Walk::Downgrade, seen)
     }
-    Next::walk_from(Walk::Downgrade, seen)
 }
 
 pub fn downgrade_slow_cas(v: View, seen: Word) -> Stepped
     ensures { result ≡ downgrade_slow_cas_of v seen }
 {
     if v.agrees(seen) {
-        let h = v.holding;
-        return v.writes(downgraded_word(seen), h.downgraded(), after_downgrade(seen));
+        v.writes(
+            downgraded_word(seen),
+            v.holding.downgraded(),
+            after_downgrade(seen),
+        )
+    } else {
+        v.stays(Next::at(Place::DowngradeSlowCas { seen: v.word }))
     }
-    let reported = v.word;
-    v.stays(Next::at(Place::DowngradeSlowCas { seen: reported }))
 }

@@ -10,9 +10,9 @@ fn read_unlock_judged(v: View, seen: Word) -> Stepped
     ensures { result ≡ read_unlock_judged v seen }
 {
     match seen.read_unlock() {
-        ReadUnlocked::To(_) => v.stays(Next::at(Place::ReadUnlockCas { seen: seen })),
+        ReadUnlocked::To(_) => v.stays(Next::at(Place::ReadUnlockCas { seen })),
         ReadUnlocked::Contended => v.stays(Next::walk_from(Walk::ReadUnlock, seen)),
-        ReadUnlocked::Refused => Stepped::Refused(Refusal::Damaged),
+        ReadUnlocked::Refused => Err(Refusal::Damaged),
     }
 }
 
@@ -26,17 +26,13 @@ pub fn read_unlock_load(v: View) -> Stepped
 pub fn read_unlock_cas(v: View, seen: Word) -> Stepped
     ensures { result ≡ read_unlock_cas_of v seen }
 {
-    if v.agrees(seen) {
-        return match seen.read_unlock() {
-            ReadUnlocked::To(to) => {
-                let h = v.holding;
-                v.writes(to, h.released_read(), Next::end(Answer::Done))
-            }
-            ReadUnlocked::Contended => read_unlock_judged(v, v.word),
-            ReadUnlocked::Refused => read_unlock_judged(v, v.word),
-        };
+    if v.agrees(seen)
+        && let ReadUnlocked::To(to) = seen.read_unlock()
+    {
+        v.writes(to, v.holding.released_read(), Next::end(Answer::Done))
+    } else {
+        read_unlock_judged(v, v.word)
     }
-    read_unlock_judged(v, v.word)
 }
 
 // The last reader goes on to release; the others are done.
@@ -44,22 +40,22 @@ fn after_subtract(seen: Word, left: u64) -> Next
     ensures { result ≡ after_subtract seen left }
 {
     if left == 0 {
-        return Next::at(Place::ReleaseCas { seen: seen });
+        Next::at(Place::ReleaseCas { seen })
+    } else {
+        Next::end(Answer::Done)
     }
-    Next::end(Answer::Done)
 }
 
 // Take this reader off the count in the tail's next; a raw next below 16 counts none.
 pub fn subtract(v: View, seen: Word, tail: NodeNumber) -> Stepped
     ensures { result ≡ subtract_of v seen tail }
 {
-    let next = v.node.next;
-    let raw = next.0;
-    if raw < Word::SINGLE {
-        return Stepped::Refused(Refusal::Damaged);
+    match v.node.next.0.checked_sub(Word::SINGLE) {
+        Some(left) => v.subtracts(
+            v.node.with_next(Word(left)),
+            v.holding.released_read(),
+            after_subtract(seen, left),
+        ),
+        None => Err(Refusal::Damaged),
     }
-    let left = raw - Word::SINGLE;
-    let node = v.node.with_next(Word(left));
-    let h = v.holding;
-    v.subtracts(node, h.released_read(), after_subtract(seen, left))
 }

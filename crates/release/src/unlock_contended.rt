@@ -11,9 +11,10 @@ fn released_to(seen: Word) -> Word
 {
     let free = seen.clear_locked();
     if seen.queue_locked() {
-        return free;
+        free
+    } else {
+        free.set_queue_locked()
     }
-    free.set_queue_locked()
 }
 
 // Whoever holds the queue lock wakes; if that is now us, unlock the queue.
@@ -21,9 +22,10 @@ fn after_release(seen: Word, to: Word) -> Next
     ensures { result ≡ after_release seen to }
 {
     if seen.queue_locked() {
-        return Next::end(Answer::Done);
+        Next::end(Answer::Done)
+    } else {
+        Next::walk_from(Walk::Queue { who: Who::Leaver }, to)
     }
-    Next::walk_from(Walk::Queue { who: Who::Leaver }, to)
 }
 
 pub fn release_cas(v: View, seen: Word) -> Stepped
@@ -31,9 +33,8 @@ pub fn release_cas(v: View, seen: Word) -> Stepped
 {
     if v.agrees(seen) {
         let to = released_to(seen);
-        let h = v.holding;
-        return v.writes(to, h.released_write(), after_release(seen, to));
+        v.writes(to, v.holding.released_write(), after_release(seen, to))
+    } else {
+        v.stays(Next::at(Place::ReleaseCas { seen: v.word }))
     }
-    let reported = v.word;
-    v.stays(Next::at(Place::ReleaseCas { seen: reported }))
 }

@@ -3,15 +3,18 @@ ghost use Rattle.std.specs.Prelude.{◌≡◌};
 ghost use Rattle.release.specs.WriteUnlock.{write_unlock_cas_of};
 
 use state::{Answer, Next, Place, Stepped, View};
-use word::Word;
+use word::{ONE_WRITER, Word};
 
 pub fn write_unlock_cas(v: View) -> Stepped
     ensures { result ≡ write_unlock_cas_of v }
 {
-    let w = v.word;
-    if w.0 == Word::LOCKED {
-        let h = v.holding;
-        return v.writes(Word(0), h.released_write(), Next::end(Answer::Done));
+    if v.word == ONE_WRITER {
+        v.writes(
+            Word::FREE,
+            v.holding.released_write(),
+            Next::end(Answer::Done),
+        )
+    } else {
+        v.stays(Next::at(Place::ReleaseCas { seen: v.word }))
     }
-    v.stays(Next::at(Place::ReleaseCas { seen: w }))
 }

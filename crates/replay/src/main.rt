@@ -7,6 +7,5 @@ use console::runs::replay_received;
 fn main(rt: HostRuntime) {
     let mut file = [0u8; ENOUGH];
     let got = receive(&rt, &mut file);
-    let reading = got.reading;
-    replay_received(&rt, reading, &file[..got.length]);
+    replay_received(&rt, got.reading, &file[..got.length]);
 }

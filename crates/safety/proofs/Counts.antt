@@ -1,7 +1,8 @@
 -- The readers' number: grants of read and downgrades less releases, along a run; where it sits in the machine;
 -- and that the traced count agrees.
 -- Assumes nothing.
-use Rattle.std.specs.Prelude.{ℕ, zero, suc, ◌+◌, ◌-◌, ◌*◌, ◌≤◌, ◌<◌, true, false, List, [], ◌∷◌, ◌≡◌, refl, eqb}
+use Rattle.std.specs.Prelude.{ℕ, zero, suc, ◌+◌, ◌-◌, ◌*◌, ◌≤◌, ◌<◌, true, false, List, [], ◌∷◌, ◌≡◌, refl, eqb, Ok}
+use Rattle.std.specs.Prelude.{Result}
 use Rattle.std.proofs.Common.{sym, ap, ◌∙◌, subst, arith, eqb-true, eq-eqb}
 use Rattle.std.proofs.lemmas.Bool.{eqb-false}
 use Rattle.word.specs.Cases.{pick_both, pick_yes}
@@ -9,7 +10,7 @@ use Rattle.word.specs.Flags.{LOCKED, SINGLE, queued, downgraded}
 use Rattle.word.specs.declared.number.NodeNumber.{NodeNumber}
 use Rattle.state.specs.Holding.{reads_of, writes_of}
 use Rattle.state.specs.Machine.{good_count, thread_at}
-use Rattle.state.specs.declared.answer.Verdict.TheVariants.{Fine}
+use Rattle.state.specs.declared.answer.Refusal.{Refusal}
 use Rattle.state.specs.declared.holding.Holding.{Holding}
 use Rattle.state.specs.declared.holding.Holding.TheVariants.{Nothing, Read, Write}
 use Rattle.state.specs.declared.machine.Machine.{Machine}
@@ -23,21 +24,21 @@ use Rattle.queue.specs.Sums.{sum, sum_upd}
 use Rattle.queue.specs.Tickets.{Ghost}
 use Rattle.invariant.specs.Invariant.{readers, writers, leavers, Unqueued, empty, written, read, Newest, Inv}
 use Rattle.invariant.specs.Bridge.{lock_of}
-use Rattle.invariant.proofs.Events.{Ok, event_safe}
+use Rattle.invariant.proofs.Events.{Sound, event_safe}
 use Rattle.safety.specs.Held.{listing_is}
 use Rattle.safety.specs.Intervals.{down, node_by_lem}
 use Rattle.safety.specs.Members.{oldest_down}
 use Rattle.safety.proofs.Plain.{within, event_allowed}
 use Rattle.safety.specs.Runs.{same_count}
-use Rattle.safety.specs.Statements.{Event, after, effect_in, ran_by, ran, Holders, holders_of, Allows}
-use Rattle.safety.specs.Statements.{gained, given_up, tally, Counted}
+use Rattle.safety.specs.Statements.{Event, after, effect_in, ran_by, ran, Holders, holders_of, Allows, gained}
+use Rattle.safety.specs.Statements.{given_up, tally, Counted}
 
 -- ── along a run ──
 
 abbrev pub readers_in : Machine → ℕ
 readers_in m = readers m.count (lock_of m)
 
-module _ (m : Machine) (ok : Ok m) (e : Event) where
+module _ (m : Machine) (ok : Sound m) (e : Event) where
   -- the readers after it, by who holds what
   as_holders : (h : Holders) → holders_of (after m e) ≡ h → readers_in (after m e) ≡ sum m.count (λ u. reads_of (h u))
   as_holders h z =
@@ -96,7 +97,7 @@ module _ (m : Machine) (ok : Ok m) (e : Event) where
       by downgrades z =
           omega (arith, becomes Read (holds_within (omega (arith, ap writes_of z.0))) z.1, ap reads_of z.0)
 
-pub tallied : (m : Machine) → Ok m → (es : List Event)
+pub tallied : (m : Machine) → Sound m → (es : List Event)
     → tally event_of gained m es + readers_in m ≡ readers_in (ran m es) + tally event_of given_up m es
 unfolding tally ran_by
 tallied m ok [] = omega arith
@@ -110,7 +111,7 @@ unfolding reads_below
 reads_below_lem zero m = refl
 reads_below_lem (suc n) m = omega (arith, reads_below_lem n m)
 
-module _ (m : Machine) (ok : Ok m) where
+module _ (m : Machine) (ok : Sound m) where
   abbrev g : Ghost
   g = ok.ghost
 
@@ -148,10 +149,11 @@ module _ (m : Machine) (ok : Ok m) where
 
   -- ── the traced count ──
 
-  record Traced (x : Readers) : Type 0 where
-    pub readers : x.readers ≡ readers_in m
-    pub agrees : x.agrees ≡ true
-    pub fine : x.verdict ≡ Fine
+  record Traced (x : Result Readers Refusal) : Type 0 where
+    pub found : Readers
+    pub fine : x ≡ Ok found
+    pub readers : found.readers ≡ readers_in m
+    pub agrees : found.agrees ≡ true
 
   traced : Traced (readers_of m)
   traced =
@@ -164,25 +166,32 @@ module _ (m : Machine) (ok : Ok m) where
           → (l : Listed)
           → listed_of m ≡ l
           → Traced (in_oldest_by m (readers_in m) l)
-      oldest_agrees some q d lost e = absurd (let bad : ◌≡◌ {A = ℕ} 0 1 = cc (listing_is m ok) in omega arith)
+      oldest_agrees some q d lost e = absurd (cc (listing_is m ok))
       oldest_agrees some q d (listed ns) e = record {
+        found = _;
+        fine = refl;
         readers = refl;
         agrees = eq-eqb _ _ (in_oldest some q d ns e);
-        fine = refl;
       }
 
       held : Traced (held_of m (readers_in m))
       held = pick_both Traced (eqb (readers_in m) 0) _ _
-          (λ z. record { readers = sym (eqb-true (readers_in m) 0 z); agrees = refl; fine = refl })
+          (λ z. record { found = _; fine = refl; readers = sym (eqb-true (readers_in m) 0 z); agrees = refl })
           (λ z. let some : 1 ≤ readers_in m = omega (arith, eqb-false (readers_in m) 0 z) in
           pick_both Traced (queued m.word) _ _
           (λ q. pick_both Traced (downgraded m.word) _ _
-          (λ d. record { readers = refl; agrees = eq-eqb 1 (readers_in m) (sym (in_downgrade q d)); fine = refl })
+          (λ d. record {
+            found = _;
+            fine = refl;
+            readers = refl;
+            agrees = eq-eqb 1 (readers_in m) (sym (in_downgrade q d));
+          })
           (λ d. oldest_agrees some q d (listed_of m) refl))
           (λ q. record {
+            found = _;
+            fine = refl;
             readers = refl;
             agrees = eq-eqb m.word.0 (SINGLE * readers_in m + LOCKED) (in_word_lem some q);
-            fine = refl;
           }))
 
   pub counted : Counted m (readers_in m)
@@ -190,7 +199,8 @@ module _ (m : Machine) (ok : Ok m) where
     word = in_word_lem;
     downgrade = λ _. in_downgrade;
     next = in_oldest;
+    found = traced.found;
+    fine = traced.fine;
     traced = traced.readers;
     agrees = traced.agrees;
-    fine = traced.fine;
   }

@@ -1,14 +1,14 @@
 -- How the lists of waiters change when the tickets move: by each effect as its name says, and in no other way.
 -- Assumes nothing.
 use Rattle.std.specs.Prelude.{ℕ, suc, ◌+◌, ◌-◌, ◌≤◌, ◌<◌, Bool, true, false, List, [], ◌∷◌, ◌++◌, ◌≢◌, ◌≡◌, refl}
+use Rattle.std.specs.Prelude.{Err, Ok}
 use Rattle.std.proofs.Common.{sym, ap, ap₂, ◌∙◌, subst, arith}
 use Rattle.word.specs.Base.{pick}
 use Rattle.word.specs.Number.{node}
 use Rattle.word.specs.declared.number.NodeNumber.{NodeNumber}
+use Rattle.state.specs.Answer.{Reply}
 use Rattle.state.specs.declared.machine.Machine.{Machine}
 use Rattle.state.specs.Machine.{thread_at}
-use Rattle.state.specs.declared.answer.Reply.{Reply}
-use Rattle.state.specs.declared.answer.Reply.TheVariants.{Accepted, Refused}
 use Rattle.listing.specs.Listing.{Listed, listed}
 use Rattle.standing.specs.Part.{part_of}
 use Rattle.lock.specs.Event.{event_of}
@@ -19,7 +19,7 @@ use Rattle.queue.specs.Tickets.{Ghost, Span, Parts, oldest_span, empty_span, who
 use Rattle.invariant.specs.Table.{wait_of}
 use Rattle.invariant.specs.Moves.{Moved, AsideAfter}
 use Rattle.invariant.specs.Bridge.{node_in}
-use Rattle.invariant.proofs.Events.{Ok, Safe, event_safe}
+use Rattle.invariant.proofs.Events.{Sound, Safe, event_safe}
 use Rattle.safety.specs.Lists.{aside_of}
 use Rattle.safety.specs.Parts.{same_part}
 use Rattle.safety.specs.Intervals.{up, up_more, up_same, node_is}
@@ -153,7 +153,7 @@ module _ (g : Ghost) (wait : ℕ → Bool) (p : Parts g wait) (t : ℕ) where
 
 -- ── on the machine ──
 
-module _ (m : Machine) (ok : Ok m) where
+module _ (m : Machine) (ok : Sound m) where
   abbrev aside_now : ℕ → Bool
   aside_now u = aside_of (part_of (thread_at m u).place)
 
@@ -175,7 +175,7 @@ module _ (m : Machine) (ok : Ok m) where
       given true e = refl
       given false e = e
 
-pub event_lists : (m : Machine) → Ok m → (e : Event) → Move m (after m e) e.thread.0 (effect_in m e).queue
+pub event_lists : (m : Machine) → Sound m → (e : Event) → Move m (after m e) e.thread.0 (effect_in m e).queue
 unfolding lists_of
 event_lists m ok e =
     record {
@@ -212,6 +212,6 @@ event_lists m ok e =
       where
         by : (r : Reply) → (event_of m e.code e.thread).reply ≡ r
             → aside_now (after m e) safe.ok u ≡ aside_now m ok u
-        by (Accepted a w) f = ap (λ p. aside_of (part_of p)) ((changes_little m e.code e.thread a w f).places u ne)
-        by (Refused r) f =
+        by (Ok told) f = ap (λ p. aside_of (part_of p)) ((changes_little m e.code e.thread told.answer told.woken f).places u ne)
+        by (Err r) f =
             ap (λ x. aside_of (part_of (thread_at x u).place)) (refusal_changes_nothing m e.code e.thread r f)

@@ -2,16 +2,16 @@
 -- step that a plain lock allows.
 -- Assumes nothing.
 use Rattle.std.specs.Prelude.{ℕ, zero, suc, ◌+◌, ◌≤◌, ◌<◌, Bool, true, false, List, [], ◌∷◌, ◌≢◌, ◌⊎◌, ◌≡◌, refl, ltb}
+use Rattle.std.specs.Prelude.{Err, Ok}
 use Rattle.std.proofs.Common.{inl, inr, sym, ap, ◌∙◌, subst, arith, ltb-true}
 use Rattle.std.proofs.Math.Path.{fun_ext}
 use Rattle.std.proofs.Math.Decide.{dec_lt}
 use Rattle.word.specs.Base.{pick}
 use Rattle.word.specs.Cases.{pick_both}
 use Rattle.word.specs.Flags.{queued, locked, downgraded}
+use Rattle.state.specs.Answer.{Reply}
 use Rattle.state.specs.Holding.{reads_of, writes_of}
 use Rattle.state.specs.Machine.{thread_at}
-use Rattle.state.specs.declared.answer.Reply.{Reply}
-use Rattle.state.specs.declared.answer.Reply.TheVariants.{Accepted, Refused}
 use Rattle.state.specs.declared.holding.Holding.{Holding}
 use Rattle.state.specs.declared.holding.Holding.TheVariants.{Nothing, Read, Write}
 use Rattle.state.specs.declared.machine.Machine.{Machine}
@@ -29,7 +29,7 @@ use Rattle.invariant.specs.Table.{about, Lock, Free, Allowed}
 use Rattle.invariant.specs.Invariant.{readers, writers, leavers, Unqueued, empty, written}
 use Rattle.invariant.specs.Invariant.{read, Locked, by_writer, by_readers, by_leaver, Inv}
 use Rattle.invariant.specs.Bridge.{lock_of}
-use Rattle.invariant.proofs.Events.{Ok, event_safe}
+use Rattle.invariant.proofs.Events.{Sound, event_safe}
 use Rattle.safety.specs.Statements.{Event, after, effect_in, ran_by, ran, holders_of, Allows, Plainly}
 use Rattle.safety.specs.Statements.{Whose, nobodys, readers as readers_hold, writers as writers_hold}
 
@@ -130,7 +130,7 @@ module _ (n : ℕ) (s : Lock) (g : Ghost) (i : Inv n s g) where
         writes = omega (arith, sum_two n w t u (omega arith) k, exclusive.1);
       }
 
-pub whose : (m : Machine) → Ok m → Whose (holders_of m)
+pub whose : (m : Machine) → Sound m → Whose (holders_of m)
 whose m ok = by (dec_lt 0 (readers m.count (lock_of m))) (dec_lt 0 (writers m.count (lock_of m)))
   where
     some : (f : Holding → ℕ)
@@ -223,8 +223,8 @@ module _ (h : Holding) (changed : Bool) (s : Stand) where
 
 -- ── an event is a step of the plain lock ──
 
-module _ (m : Machine) (ok : Ok m) (e : Event) where
-  after_ok : Ok (after m e)
+module _ (m : Machine) (ok : Sound m) (e : Event) where
+  after_ok : Sound (after m e)
   after_ok = (event_safe m ok e.thread e.code).ok
 
   -- nobody else's holding changes
@@ -232,8 +232,8 @@ module _ (m : Machine) (ok : Ok m) (e : Event) where
   others_hold u ne = by (event_of m e.code e.thread).reply refl
     where
       by : (r : Reply) → (event_of m e.code e.thread).reply ≡ r → holders_of (after m e) u ≡ holders_of m u
-      by (Accepted a w) f = (changes_little m e.code e.thread a w f).holdings u ne
-      by (Refused r) f = ap (λ x. holders_of x u) (refusal_changes_nothing m e.code e.thread r f)
+      by (Ok told) f = (changes_little m e.code e.thread told.answer told.woken f).holdings u ne
+      by (Err r) f = ap (λ x. holders_of x u) (refusal_changes_nothing m e.code e.thread r f)
 
   own_holds : holders_of (after m e) e.thread.0 ≡ held_after (effect_in m e).lock (holders_of m e.thread.0)
   own_holds = holding_follows_effect m e.code e.thread ok.sized
@@ -300,7 +300,7 @@ module _ (m : Machine) (ok : Ok m) (e : Event) where
       by releases_write a z = (writes_is _ a, all_hold Nothing z)
       by downgrades a z = (writes_is _ a, all_hold Read z)
 
-pub run_allowed : (m : Machine) → Ok m → (es : List Event)
+pub run_allowed : (m : Machine) → Sound m → (es : List Event)
     → Plainly event_of (holders_of m) m es (holders_of (ran m es))
 unfolding Plainly ran_by
 run_allowed m ok [] = refl

@@ -7,11 +7,11 @@ use Rattle.word.specs.declared.number.NodeNumber.{NodeNumber}
 use Rattle.state.specs.declared.machine.Machine.{Machine}
 use Rattle.lock.specs.Effect.{QueueEffect, stands, registers, sets_aside, restores, takes_tail, takes_all, completes}
 use Rattle.lock.specs.Event.{event_of}
-use Rattle.listing.specs.Listing.{listed, waiters_by}
+use Rattle.listing.specs.Listing.{listed, listed_of, waiters_by}
 use Rattle.queue.specs.Updates.{upd, upd_same, upd_other}
 use Rattle.queue.specs.Tickets.{Ghost, live_queue}
 use Rattle.invariant.specs.Moves.{Moved}
-use Rattle.invariant.proofs.Events.{Ok, event_safe}
+use Rattle.invariant.proofs.Events.{Sound, event_safe}
 use Rattle.safety.specs.Intervals.{down, down_same, node_is}
 use Rattle.safety.specs.Held.{listing_is}
 use Rattle.safety.specs.Members.{no_repeats, take_down}
@@ -49,7 +49,7 @@ registering_is (completes k) g t g' z = ap logged (sym z.is)
 
 -- so a run adds what was registered in it
 pub record Made (m : Machine) (made : List NodeNumber) : Type 0 where
-  pub ok : Ok m
+  pub ok : Sound m
   pub is : made ≡ logged ok.ghost
 
 pub made_in : (m : Machine) (made : List NodeNumber) → Made m made → (es : List Event)
@@ -68,9 +68,9 @@ made_in m made r (e ∷ es) =
 
 pub listing_made : (m : Machine) (made : List NodeNumber) → Made m made → Listing m made
 listing_made m made r = record {
-  fine = ap (λ l. (waiters_by l).verdict) (listing_is m r.ok);
   waiting = g.hi - g.lo;
-  is = listing_is m r.ok ∙ ap listed (sym newest);
+  fine = ap waiters_by its;
+  is = its;
   once =
       subst NoRepeats (sym newest)
       (no_repeats g.log g.lo (g.hi - g.lo)
@@ -87,3 +87,6 @@ listing_made m made r = record {
         omega (arith, r.ok.inv.queue.parts.order) in
         ap (take (r.ok.ghost.hi - r.ok.ghost.lo)) (r.is ∙ ap (down r.ok.ghost.log 0) all)
         ∙ take_down r.ok.ghost.log r.ok.ghost.lo (r.ok.ghost.hi - r.ok.ghost.lo)
+
+    its : listed_of m ≡ listed (take (r.ok.ghost.hi - r.ok.ghost.lo) made)
+    its = listing_is m r.ok ∙ ap listed (sym newest)

@@ -17,7 +17,7 @@ use Rattle.invariant.specs.Table.{wait_of}
 use Rattle.invariant.proofs.Exclusion.{inside}
 use Rattle.invariant.proofs.Wake.{WaiterOf, waiter_of_lem}
 use Rattle.invariant.specs.Bridge.{node_in, lock_of}
-use Rattle.invariant.proofs.Events.{Ok}
+use Rattle.invariant.proofs.Events.{Sound}
 use Rattle.safety.specs.Lists.{held_by, aside_of}
 use Rattle.safety.specs.Intervals.{node_is}
 use Rattle.safety.specs.Held.{listing_is, held_is}
@@ -26,7 +26,7 @@ use Rattle.safety.specs.Parts.{same_part}
 use Rattle.safety.specs.Statements.{Waiter, Waits, Spot, queue, aside, waker, In, At, OneSpot}
 
 -- a node that waits is a waiter's
-pub waiter_is : (m : Machine) → Ok m → (k : ℕ) → WaiterOf (lock_of m) k → Waits m (node k)
+pub waiter_is : (m : Machine) → Sound m → (k : ℕ) → WaiterOf (lock_of m) k → Waits m (node k)
 waiter_is m ok k w = (
   w.thread,
   ap node (sym w.node ∙ sym (add-one w.thread)),
@@ -52,7 +52,7 @@ of_waker : (k : NodeNumber) (a : Bool) (l : Listed) → In k (pick a (listed [])
 of_waker k true l i = absurd (Memᴰ.not-nil i)
 of_waker k false l i = (refl, i)
 
-module _ (m : Machine) (ok : Ok m) where
+module _ (m : Machine) (ok : Sound m) where
   abbrev g : Ghost
   g = ok.ghost
 

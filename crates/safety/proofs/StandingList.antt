@@ -18,7 +18,6 @@ use Rattle.state.specs.declared.machine.Machine.{Machine}
 use Rattle.state.specs.declared.place.Place.{Place}
 use Rattle.state.specs.declared.place.Place.TheVariants.{Idle}
 use Rattle.lock.specs.Laws.{good_count_lem}
-use Rattle.listing.specs.Laws.{waiters_most}
 use Rattle.listing.specs.Listing.{Listed, listed, waiters_by}
 use Rattle.standing.specs.Part.{part_of, registered_of}
 use Rattle.standing.specs.Look.{place_of as place_below, completed_of, among}
@@ -30,15 +29,15 @@ use Rattle.standing.specs.declared.stands.Standing.TheVariants.{NotWaiting, Comp
 use Rattle.standing.specs.declared.stands.Standing.TheVariants.{Nowhere}
 use Rattle.queue.specs.Tests.{never}
 use Rattle.queue.specs.Updates.{eq?}
-use Rattle.invariant.proofs.Events.{Ok}
+use Rattle.invariant.proofs.Events.{Sound}
 use Rattle.safety.specs.Lists.{aside_in, wakes_in}
 use Rattle.safety.specs.ListTests.{Tests, among_listed, told}
-use Rattle.safety.specs.Held.{listing_is, held_is, held_few}
+use Rattle.safety.specs.Held.{listing_is, held_is}
 use Rattle.safety.proofs.ListMoves.{held_list}
 use Rattle.safety.proofs.Spots.{one_spot}
 use Rattle.safety.specs.Statements.{Waiter, Spot, queue, aside, waker, In, At, OneSpot, Says, StandsSo}
 
-module _ (m : Machine) (ok : Ok m) where
+module _ (m : Machine) (ok : Sound m) where
   abbrev part : ℕ → Part
   part u = part_of (thread_at m u).place
 
@@ -57,8 +56,7 @@ module _ (m : Machine) (ok : Ok m) where
     lists_of : (u : ℕ)
         → Tests (is_aside (part u) n) (At m n (aside u)) × Tests (in_list_of m (part u) n) (At m n (waker u))
     lists_of u =
-        told n some m few ok.good (part u) (held_list ok.ghost u) (omega (arith, held_few m ok u, few))
-        (held_is m ok u)
+        told n some m few ok.good (part u) (held_list ok.ghost u) (held_is m ok u)
 
     abbrev NotOn : ℕ → Type 0
     NotOn u = (At m n (aside u) → ⊥) × (At m n (waker u) → ⊥)
@@ -118,8 +116,7 @@ module _ (m : Machine) (ok : Ok m) where
     queue_tests : Tests (in_queue_of m n) (At m n queue)
     queue_tests =
         subst (λ l. Tests (among (waiters_by l) n) (In n l)) (sym (listing_is m ok))
-        (among_listed n some _
-        (omega (arith, subst (λ l. (waiters_by l).length ≤ m.count) (listing_is m ok) (waiters_most m), few)))
+        (among_listed n some _)
 
     waits : Waiter m t.0 → Says (pick (in_queue_of m n) InQueue (held_below m.count m n)) m t
     waits w = by (in_queue_of m n) refl

@@ -16,7 +16,7 @@ use Rattle.invariant.specs.Invariant.{readers}
 use Rattle.invariant.proofs.Wake.{waiter_of_lem}
 use Rattle.invariant.proofs.Steps.{WaitingNode, touches, marks}
 use Rattle.invariant.specs.Bridge.{lock_of}
-use Rattle.invariant.proofs.Events.{Ok}
+use Rattle.invariant.proofs.Events.{Sound}
 use Rattle.safety.specs.Statements.{reached, CountStays, holders_of, Plainly, PlainLock, MutualExclusion}
 use Rattle.safety.specs.Statements.{ChangesWithTheWord, ReaderCount, registrations, ListingTotal, ListsMove}
 use Rattle.safety.specs.Statements.{Waits, OnePlace, StandingIsItsList, OneQueueOwner, NobodyStuck, NeverEight}
@@ -97,7 +97,7 @@ nobody_stuck n es all t l asleep =
     m : Machine
     m = reached n es
 
-    ok : Ok (reached n es)
+    ok : Sound (reached n es)
     ok = reached_ok n es
 
     rests : (u : ℕ) → Dec (u < (reached n es).count) → Rests (lock_of (reached n es)) u
@@ -125,7 +125,7 @@ touched_alive n es t =
     m : Machine
     m = reached n es
 
-    ok : Ok (reached n es)
+    ok : Sound (reached n es)
     ok = reached_ok n es
 
     WaitingIn : NodeNumber → Type 0

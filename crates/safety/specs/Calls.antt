@@ -3,14 +3,13 @@
 -- In this order: a log of one thread's calls, kept over a run; the work of each call; the statement.
 -- Not here: what holds of the machines reached (Statements.antt).
 -- Assumes nothing.
-use Rattle.std.specs.Prelude.{ℕ, true, false, List, [], ◌∷◌, ◌++◌, ◌⊎◌, ◌≡◌, eqb}
+use Rattle.std.specs.Prelude.{ℕ, true, false, List, [], ◌∷◌, ◌++◌, ◌⊎◌, ◌≡◌, eqb, Err, Ok}
 use Rattle.word.specs.Base.{pick}
 use Rattle.word.specs.declared.number.ThreadNumber.{ThreadNumber}
+use Rattle.state.specs.Answer.{Reply}
 use Rattle.state.specs.Machine.{fresh_of}
 use Rattle.state.specs.declared.answer.Answer.{Answer}
 use Rattle.state.specs.declared.answer.Answer.TheVariants.{Begun, Went, Done, Yes, No}
-use Rattle.state.specs.declared.answer.Reply.{Reply}
-use Rattle.state.specs.declared.answer.Reply.TheVariants.{Accepted, Refused}
 use Rattle.state.specs.declared.machine.Machine.{Machine}
 use Rattle.state.specs.declared.place.Place.{Place}
 use Rattle.state.specs.declared.place.Place.TheVariants.{Idle}
@@ -62,13 +61,16 @@ closes resting a x l = l
 closes (inside c xs) a x l = record { call = c; answer = a; effects = also xs x } ∷ l
 
 -- begun opens a call; went adds what was done; done, yes and no close it; a refused event is none
+abbrev pub noted_by : Answer → ℕ → LockEffect → Log → Log
+noted_by Begun code x g = record { now = inside (call_of code) []; ended = g.ended }
+noted_by Went code x g = record { now = goes_on g.now x; ended = g.ended }
+noted_by Done code x g = record { now = resting; ended = closes g.now Done x g.ended }
+noted_by Yes code x g = record { now = resting; ended = closes g.now Yes x g.ended }
+noted_by No code x g = record { now = resting; ended = closes g.now No x g.ended }
+
 abbrev pub noted : Reply → ℕ → LockEffect → Log → Log
-noted (Refused r) code x g = g
-noted (Accepted Begun w) code x g = record { now = inside (call_of code) []; ended = g.ended }
-noted (Accepted Went w) code x g = record { now = goes_on g.now x; ended = g.ended }
-noted (Accepted Done w) code x g = record { now = resting; ended = closes g.now Done x g.ended }
-noted (Accepted Yes w) code x g = record { now = resting; ended = closes g.now Yes x g.ended }
-noted (Accepted No w) code x g = record { now = resting; ended = closes g.now No x g.ended }
+noted (Err r) code x g = g
+noted (Ok told) code x g = noted_by told.answer code x g
 
 -- an event is noted in its own thread's log alone
 abbrev pub logged : Program → ThreadNumber → Machine → Event → Log → Log

@@ -2,18 +2,17 @@
 -- contended reader's subtraction: who releases or downgrades slowly compares a word that is as queue.rs asserts, or its
 -- compare fails. The statement: Statements.antt.
 -- Assumes nothing.
-use Rattle.std.specs.Prelude.{ℕ, true, false, ◌⊎◌, ◌≡◌}
+use Rattle.std.specs.Prelude.{ℕ, true, false, ◌⊎◌, ◌≡◌, Err, Ok, Option}
 use Rattle.std.proofs.Math.Logic.{inl}
 use Rattle.std.proofs.Common.{inr, ⊎_elim, sym, ap, ◌∙◌, subst}
 use Rattle.std.proofs.Math.Path.{refl}
 use Rattle.word.specs.Flags.{word, locked, queued, downgraded}
 use Rattle.word.specs.declared.flags.Word.{Word}
-use Rattle.word.specs.declared.number.Owner.{Owner}
+use Rattle.word.specs.declared.number.ThreadNumber.{ThreadNumber}
+use Rattle.state.specs.Answer.{Reply, accepted_with}
 use Rattle.state.specs.Machine.{thread_at}
 use Rattle.state.specs.View.{agrees_of}
 use Rattle.state.specs.declared.answer.Answer.{Answer}
-use Rattle.state.specs.declared.answer.Reply.{Reply}
-use Rattle.state.specs.declared.answer.Reply.TheVariants.{Accepted, Refused}
 use Rattle.state.specs.declared.machine.Machine.{Machine}
 use Rattle.state.specs.declared.place.Place.{Place}
 use Rattle.state.specs.declared.place.Place.TheVariants as At
@@ -35,7 +34,7 @@ use Rattle.invariant.specs.Table.{about}
 use Rattle.invariant.specs.Invariant.{writers, leavers}
 use Rattle.invariant.proofs.Exclusion.{nobody_needs}
 use Rattle.invariant.specs.Bridge.{lock_of}
-use Rattle.invariant.proofs.Events.{Ok}
+use Rattle.invariant.proofs.Events.{Sound}
 use Rattle.safety.specs.Statements.{Event, effect_in, WithTheWord}
 
 -- ── the rules of the two compares ──
@@ -55,7 +54,7 @@ downgrade_agreed v seen =
     downgrade_slow_ends v (KeptOrAgreed v (At.DowngradeSlowCas seen) seen) seen inr inr (inl refl)
 
 -- who needs the queue to stay finds the word as queue.rs asserts
-needs_contended : (m : Machine) (ok : Ok m) (t : ℕ)
+needs_contended : (m : Machine) (ok : Sound m) (t : ℕ)
     → (about (thread_at m t).place).needs_queue ≡ true → contended m.word ≡ true
 needs_contended m ok t e = rw (q, l, d)
   where
@@ -73,8 +72,8 @@ needs_contended m ok t e = rw (q, l, d)
 
 -- ── a step ──
 
-module _ (m : Machine) (ok : Ok m) (e : Event) (a : Answer) (w : Owner)
-    (r : (event_of m e.code e.thread).reply ≡ Accepted a w)
+module _ (m : Machine) (ok : Sound m) (e : Event) (a : Answer) (w : Option ThreadNumber)
+    (r : (event_of m e.code e.thread).reply ≡ accepted_with a w)
     (s : Stepping m e.code e.thread (event_of m e.code e.thread)) where
   abbrev v : View
   v = seen m e.code e.thread a w r s
@@ -134,16 +133,16 @@ module _ (m : Machine) (ok : Ok m) (e : Event) (a : Answer) (w : Owner)
 
 -- ── an event ──
 
-pub event_changes : (m : Machine) → Ok m → (e : Event) → WithTheWord event_of m e
+pub event_changes : (m : Machine) → Sound m → (e : Event) → WithTheWord event_of m e
 event_changes m ok e = by (event_of m e.code e.thread).reply refl
   where
-    accepted : (a : Answer) (w : Owner) → (event_of m e.code e.thread).reply ≡ Accepted a w
+    accepted : (a : Answer) (w : Option ThreadNumber) → (event_of m e.code e.thread).reply ≡ accepted_with a w
         → Happened m e.code e.thread (event_of m e.code e.thread) → WithTheWord event_of m e
     accepted a w r (begun b) = inl (begun_effect m e.code e.thread b)
     accepted a w r (stepped s) = step_changes m ok e a w r s
 
     by : (r : Reply) → (event_of m e.code e.thread).reply ≡ r → WithTheWord event_of m e
-    by (Accepted a w) r = accepted a w r (happened m e.code e.thread a w r)
-    by (Refused x) r =
+    by (Ok told) r = accepted told.answer told.woken r (happened m e.code e.thread told.answer told.woken r)
+    by (Err x) r =
         inl (ap (λ y. (effect_of e.thread m y).lock) (refusal_changes_nothing m e.code e.thread x r)
         ∙ (refused_has_no_effect m e.thread).0)

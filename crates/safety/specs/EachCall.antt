@@ -1,26 +1,23 @@
 -- Each call does its work: kept by every event of a thread's own, untouched by the others', and so along every run.
 -- The statement: Calls.antt. What fits a place: Phases.antt; that a rule keeps it: CallSteps.antt.
 -- Assumes nothing.
-use Rattle.std.specs.Prelude.{ℕ, Bool, true, false, List, [], ◌∷◌, ◌≢◌, refl, eqb}
+use Rattle.std.specs.Prelude.{ℕ, Bool, true, false, List, [], ◌∷◌, ◌≢◌, refl, eqb, Err, Ok, Option}
 use Rattle.std.proofs.Math.Path.{◌≡◌, ap}
 use Rattle.std.proofs.Common.{sym, ◌∙◌, subst, eqb-true}
 use native.Mathlib.Omega.{arith}
 use Rattle.std.proofs.lemmas.Bool.{eqb-false}
 use Rattle.word.specs.Base.{pick}
 use Rattle.word.specs.Number.{thread}
-use Rattle.word.specs.declared.number.Owner.{Owner}
 use Rattle.word.specs.declared.number.ThreadNumber.{ThreadNumber}
+use Rattle.state.specs.Answer.{Reply, accepted_with}
 use Rattle.state.specs.Machine.{thread_at, fresh_of}
 use Rattle.state.specs.declared.answer.Answer.{Answer}
 use Rattle.state.specs.declared.answer.Answer.TheVariants.{Begun, Went, Done, Yes, No}
-use Rattle.state.specs.declared.answer.Reply.{Reply}
-use Rattle.state.specs.declared.answer.Reply.TheVariants.{Accepted, Refused}
 use Rattle.state.specs.declared.holding.Holding.{Holding}
 use Rattle.state.specs.declared.machine.Machine.{Machine}
 use Rattle.state.specs.declared.place.Place.{Place}
 use Rattle.state.specs.declared.place.Place.TheVariants.{Idle}
 use Rattle.state.specs.declared.view.View.{View}
-use Rattle.state.specs.declared.view.Stepped.TheVariants.{To}
 use Rattle.lock.specs.Advance.{advance_of}
 use Rattle.lock.specs.Code.{call_of}
 use Rattle.lock.specs.Effect.{LockEffect}
@@ -34,7 +31,7 @@ use Rattle.promises.specs.Happened.{Begun as BegunCall, Stepping, Happened, begu
 use Rattle.promises.proofs.EndsExactly.{call_place}
 use Rattle.promises.proofs.Afterwards.{begin_code, seen, by_rule, answered, own_place, own_holding, effect_is}
 use Rattle.promises.proofs.Theorems.{ends_exactly, changes_little, refusal_changes_nothing}
-use Rattle.invariant.proofs.Events.{Ok, event_safe}
+use Rattle.invariant.proofs.Events.{Sound, event_safe}
 use Rattle.safety.specs.Statements.{Event, after, effect_in, ran_by, ran, reached}
 use Rattle.safety.specs.Calls.{Now, resting, inside, Log, nothing_yet, also, noted, logged, log_of}
 use Rattle.safety.specs.Calls.{Each, Inside, WorkDone, EachCallDoesItsWork}
@@ -51,7 +48,7 @@ record Tidy (t : ThreadNumber) (g : Log) (m : Machine) : Type 0 where
   ended : Each g.ended
   now : FitsNow g.now (place_of m t) (thread_at m t.0).holding
 
-module _ (m : Machine) (ok : Ok m) (t : ThreadNumber) (g : Log) (d : Tidy t g m) where
+module _ (m : Machine) (ok : Sound m) (t : ThreadNumber) (g : Log) (d : Tidy t g m) where
   module _ (code : ℕ) where
     abbrev next : Machine
     next = (event_of m code t).machine
@@ -61,8 +58,8 @@ module _ (m : Machine) (ok : Ok m) (t : ThreadNumber) (g : Log) (d : Tidy t g m)
 
     -- ── a begin ──
 
-    begun_tidy : (a : Answer) (w : Owner) → (event_of m code t).reply ≡ Accepted a w
-        → BegunCall m code t (event_of m code t) → Tidy t (noted (Accepted a w) code did g) next
+    begun_tidy : (a : Answer) (w : Option ThreadNumber) → (event_of m code t).reply ≡ accepted_with a w
+        → BegunCall m code t (event_of m code t) → Tidy t (noted (accepted_with a w) code did g) next
     begun_tidy a w e b =
         let y = ends_exactly.begin m code t a w ok.sized (begin_code code b.call b.codes) e in
         rw y.answer (record {
@@ -72,7 +69,7 @@ module _ (m : Machine) (ok : Ok m) (t : ThreadNumber) (g : Log) (d : Tidy t g m)
 
     -- ── a step ──
 
-    module _ (a : Answer) (w : Owner) (e : (event_of m code t).reply ≡ Accepted a w)
+    module _ (a : Answer) (w : Option ThreadNumber) (e : (event_of m code t).reply ≡ accepted_with a w)
         (s : Stepping m code t (event_of m code t)) where
       abbrev v : View
       v = seen m code t a w e s
@@ -101,14 +98,13 @@ module _ (m : Machine) (ok : Ok m) (t : ThreadNumber) (g : Log) (d : Tidy t g m)
       not_resting : place_of m t ≡ Idle → ⊥
       unfolding advance_of
       not_resting i =
-          let q : advance_of v Idle ≡ To s.c = ap (advance_of v) (sym i) ∙ s.rule in
-          let bad : ◌≡◌ {A = ℕ} 0 1 = cc in
-          omega arith
+          let q : advance_of v Idle ≡ Ok s.c = ap (advance_of v) (sym i) ∙ s.rule in
+          cc
 
-    step_tidy : (a : Answer) (w : Owner) → (event_of m code t).reply ≡ Accepted a w
+    step_tidy : (a : Answer) (w : Option ThreadNumber) → (event_of m code t).reply ≡ accepted_with a w
         → Stepping m code t (event_of m code t)
         → (n : Now) → FitsNow n (place_of m t) (thread_at m t.0).holding
-        → Tidy t (noted (Accepted a w) code did (record { now = n; ended = g.ended })) next
+        → Tidy t (noted (accepted_with a w) code did (record { now = n; ended = g.ended })) next
     step_tidy a w e s resting f = absurd (not_resting a w e s f)
     step_tidy Begun w e s (inside c xs) f = absurd (moved Begun w e s c xs f)
     step_tidy Went w e s (inside c xs) f = record { ended = d.ended; now = moved Went w e s c xs f }
@@ -124,26 +120,26 @@ module _ (m : Machine) (ok : Ok m) (t : ThreadNumber) (g : Log) (d : Tidy t g m)
     own_tidy : Tidy t (noted (event_of m code t).reply code did g) next
     own_tidy = by (event_of m code t).reply refl
       where
-        accepted : (a : Answer) (w : Owner) → (event_of m code t).reply ≡ Accepted a w
-            → Happened m code t (event_of m code t) → Tidy t (noted (Accepted a w) code did g) next
+        accepted : (a : Answer) (w : Option ThreadNumber) → (event_of m code t).reply ≡ accepted_with a w
+            → Happened m code t (event_of m code t) → Tidy t (noted (accepted_with a w) code did g) next
         accepted a w e (begun b) = begun_tidy a w e b
         accepted a w e (stepped s) = step_tidy a w e s g.now d.now
 
         by : (r : Reply) → (event_of m code t).reply ≡ r → Tidy t (noted r code did g) next
-        by (Accepted a w) e = accepted a w e (happened m code t a w e)
-        by (Refused r) e = subst (Tidy t g) (sym (refusal_changes_nothing m code t r e)) d
+        by (Ok told) e = accepted told.answer told.woken e (happened m code t told.answer told.woken e)
+        by (Err r) e = subst (Tidy t g) (sym (refusal_changes_nothing m code t r e)) d
 
   other_tidy : (e : Event) → e.thread.0 ≢ t.0 → Tidy t g (after m e)
   other_tidy e ne = by (event_of m e.code e.thread).reply refl
     where
       by : (r : Reply) → (event_of m e.code e.thread).reply ≡ r → Tidy t g (after m e)
-      by (Accepted a w) q =
-          let y = changes_little m e.code e.thread a w q in
+      by (Ok told) q =
+          let y = changes_little m e.code e.thread told.answer told.woken q in
           record {
             ended = d.ended;
             now = rw (y.places t.0 (λ z. ne (sym z)), y.holdings t.0 (λ z. ne (sym z))) d.now;
           }
-      by (Refused r) q = subst (Tidy t g) (sym (refusal_changes_nothing m e.code e.thread r q)) d
+      by (Err r) q = subst (Tidy t g) (sym (refusal_changes_nothing m e.code e.thread r q)) d
 
   event_tidy : (e : Event) → Tidy t (logged event_of t m e g) (after m e)
   event_tidy e = by (eqb e.thread.0 t.0) refl
@@ -160,7 +156,7 @@ module _ (m : Machine) (ok : Ok m) (t : ThreadNumber) (g : Log) (d : Tidy t g m)
 
 -- ── a run ──
 
-run_tidy : (t : ThreadNumber) (m : Machine) → Ok m → (g : Log) → Tidy t g m → (es : List Event)
+run_tidy : (t : ThreadNumber) (m : Machine) → Sound m → (g : Log) → Tidy t g m → (es : List Event)
     → Tidy t (log_of event_of t m es g) (ran m es)
 unfolding log_of ran_by
 run_tidy t m ok g d [] = d

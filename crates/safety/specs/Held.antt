@@ -23,12 +23,12 @@ use Rattle.invariant.specs.Invariant.{Newest}
 use Rattle.invariant.proofs.Exclusion.{inside}
 use Rattle.invariant.proofs.Wake.{WaiterOf, waiter_of_lem}
 use Rattle.invariant.specs.Bridge.{node_in, lock_of}
-use Rattle.invariant.proofs.Events.{Ok}
+use Rattle.invariant.proofs.Events.{Sound}
 use Rattle.safety.specs.Lists.{turned, queue_in, back_from, held_by}
 use Rattle.safety.specs.Intervals.{up, down, length_up, reverse_down, node_is, lists_all, few_tickets}
 use Rattle.safety.specs.Intervals.{Begins, goes_back}
 
-module _ (m : Machine) (ok : Ok m) where
+module _ (m : Machine) (ok : Sound m) where
   abbrev g : Ghost
   g = ok.ghost
 

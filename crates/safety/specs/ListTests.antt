@@ -1,9 +1,9 @@
 -- What the trace tests of a node (crate standing) is whether it is on a list of Lists.antt.
--- In this order: a test and what it tests; what a list tells of how it was made; a node in front of others, in an
--- array, in a list turned round; the way back by prev; what a thread has taken off.
+-- In this order: a test and what it tests; what a list tells of how it was made; a node in front of others, in a
+-- list, in a list turned round; the way back by prev; what a thread has taken off.
 -- Assumes nothing.
 use Prim.Native.Nat.{ℕ, zero, suc, ◌-◌, ◌≤◌, ◌<◌}
-use Rattle.std.specs.Prelude.{Bool, ◌≢◌, ◌⊎◌, ◌≡◌, ltb, leb, length, get_or, replicate}
+use Rattle.std.specs.Prelude.{Bool, ◌≢◌, ◌⊎◌, ◌≡◌, ltb, leb, length, get_or, Some, None}
 use Rattle.std.proofs.Math.Bool.{true, false}
 use mathlib.Core.List.{List, [], ◌∷◌, ◌++◌, reverse, reverse_aux, reverse-cons, reverse-reverse}
 use mathlib.Core.List.Memᴰ
@@ -12,23 +12,20 @@ use Rattle.std.proofs.Common.{inl, inr, sym, ◌∙◌, arith}
 use Rattle.std.proofs.Math.Path.{refl, ap, subst}
 use Rattle.std.proofs.Math.Decide.{dec_lt}
 use Rattle.std.proofs.Math.Dec.{eqb}
-use Rattle.std.proofs.lemmas.List.{length-reverse}
 use borrow.Author.Tests.{eqb-true, eqb-false, ne_eqb, lt-ltb, le-ltb, leb-true, ltb-false}
 use Rattle.word.specs.Base.{pick}
 use Rattle.word.specs.Cases.{pick_yes, pick_no}
 use Rattle.word.specs.Number.{none, is_none, node, slot_of}
 use Rattle.word.specs.declared.number.NodeNumber.{NodeNumber}
-use Rattle.word.specs.declared.number.Slot.TheVariants.{Outside, At as AtSlot}
 use Rattle.state.specs.Machine.{thread_limit, node_at, good_count}
 use Rattle.state.specs.declared.machine.Machine.{Machine}
 use Rattle.state.specs.declared.place.Who.{Who}
-use Rattle.listing.specs.Listing.{Listed, lost, listed, prepend, within, node_by, stand, followed_of}
-use Rattle.listing.specs.Listing.{padded, waiters_by}
+use Rattle.listing.specs.Listing.{Listed, lost, listed, prepend, within, node_by, stand, followed_of, waiters_by}
 use Rattle.standing.specs.Look.{prev_by, prev_of, same_or, among_below, among, met_from}
 use Rattle.standing.specs.Stands.{aside_in as is_aside, in_list_of}
 use Rattle.standing.specs.declared.part.Part.{Part}
-use Rattle.standing.specs.declared.part.Part.TheVariants.{Apart, Contending, Waiting, Owning, SettingAside}
-use Rattle.standing.specs.declared.part.Part.TheVariants.{Walking, Reading, Completing, Releasing}
+use Rattle.standing.specs.declared.part.Part.TheVariants.{Apart, Contending, Waiting, Owning, SettingAside, Walking}
+use Rattle.standing.specs.declared.part.Part.TheVariants.{Reading, Completing, Releasing}
 use Rattle.queue.specs.Tests.{never}
 use Rattle.safety.specs.Lists.{turned, back_from, held_by, aside_by, wakes_by}
 use Rattle.safety.specs.Statements.{In}
@@ -42,7 +39,7 @@ listed_same : (a b : List NodeNumber) → listed a ≡ listed b → a ≡ b
 listed_same a b e = cc
 
 lost_not : {A : Type 0} (ns : List NodeNumber) → lost ≡ listed ns → A
-lost_not ns e = let bad : ◌≡◌ {A = ℕ} 0 1 = cc in absurd (omega arith)
+lost_not ns e = absurd (cc)
 
 -- a node that was stood on, and the rest
 record Stood (m : Machine) (at : NodeNumber) (rest : Listed) (ns : List NodeNumber) : Type 0 where
@@ -70,9 +67,9 @@ prev_is m few at w = by (ltb at.0 1) refl w
     by false e f =
         let low : 1 ≤ at.0 = ltb-false at.0 1 e in
         let high : at.0 ≤ m.count = leb-true at.0 m.count f in
-        let slot : slot_of at m.count ≡ AtSlot (at.0 - 1) =
-        sym (pick_no (ltb at.0 1) (AtSlot (at.0 - 1)) Outside _ e
-        (pick_no (ltb m.count at.0) (AtSlot (at.0 - 1)) Outside _ (le-ltb m.count at.0 high) refl)) in
+        let slot : slot_of at m.count ≡ Some (at.0 - 1) =
+        sym (pick_no (ltb at.0 1) (Some (at.0 - 1)) None _ e
+        (pick_no (ltb m.count at.0) (Some (at.0 - 1)) None _ (le-ltb m.count at.0 high) refl)) in
         ap (prev_by m) slot
         ∙ sym (pick_yes (ltb (at.0 - 1) thread_limit) (node_at m (at.0 - 1)).prev (node_at m (at.0 - 1)).prev none
         (lt-ltb (at.0 - 1) thread_limit (omega arith)) refl)
@@ -95,27 +92,22 @@ module _ (n : NodeNumber) (some : n.0 ≢ 0) where
           back (inl f) = absurd (eqb-false x.0 n.0 e (ap (λ (y : NodeNumber). y.0) (sym f)))
           back (inr i) = t.1 i
 
-  -- ── in an array ──
+  -- ── in a list, by places ──
 
   abbrev IsAt : List NodeNumber → ℕ → Type 0
   IsAt l i = (get_or l i none).0 ≡ n.0
 
-  at_in : (ns : List NodeNumber) (k i : ℕ) → IsAt (ns ++ replicate k none) i → Memᴰ n ns
-  at_in [] k i e = absurd (some (sym e ∙ blank k i))
-    where
-      blank : (k i : ℕ) → (get_or (replicate k none) i none).0 ≡ 0
-      blank zero i = refl
-      blank (suc k) zero = refl
-      blank (suc k) (suc i) = blank k i
-  at_in (x ∷ ns) k zero e = Memᴰ.head (ap node (sym e))
-  at_in (x ∷ ns) k (suc i) e = Memᴰ.tail (at_in ns k i e)
+  at_in : (ns : List NodeNumber) (i : ℕ) → IsAt ns i → Memᴰ n ns
+  at_in [] i e = absurd (some (sym e))
+  at_in (x ∷ ns) zero e = Memᴰ.head (ap node (sym e))
+  at_in (x ∷ ns) (suc i) e = Memᴰ.tail (at_in ns i e)
 
-  in_at : (ns : List NodeNumber) (k : ℕ) → Memᴰ n ns → (i : ℕ) × (i < length ns) × IsAt (ns ++ replicate k none) i
-  in_at [] k i = absurd (Memᴰ.not-nil i)
-  in_at (x ∷ ns) k i = by (in_at ns k) (Memᴰ.cases_cons i)
+  in_at : (ns : List NodeNumber) → Memᴰ n ns → (i : ℕ) × (i < length ns) × IsAt ns i
+  in_at [] i = absurd (Memᴰ.not-nil i)
+  in_at (x ∷ ns) i = by (in_at ns) (Memᴰ.cases_cons i)
     where
-      by : (Memᴰ n ns → (j : ℕ) × (j < length ns) × IsAt (ns ++ replicate k none) j) → (n ≡ x) ⊎ Memᴰ n ns
-          → (j : ℕ) × (j < suc (length ns)) × IsAt (x ∷ (ns ++ replicate k none)) j
+      by : (Memᴰ n ns → (j : ℕ) × (j < length ns) × IsAt ns j) → (n ≡ x) ⊎ Memᴰ n ns
+          → (j : ℕ) × (j < suc (length ns)) × IsAt (x ∷ ns) j
       by r (inl e) = (0, omega arith, ap (λ (y : NodeNumber). y.0) (sym e))
       by r (inr j) = let y = r j in (suc y.0, omega (arith, y.1), y.2)
 
@@ -145,12 +137,10 @@ module _ (n : NodeNumber) (some : n.0 ≢ 0) where
               let last : i ≡ k = omega (arith, b) in
               absurd (eqb-false (get_or l k none).0 n.0 f (subst (IsAt l) last e))
 
-  pub among_listed : (ns : List NodeNumber) → length ns ≤ thread_limit
-      → Tests (among (waiters_by (listed ns)) n) (Memᴰ n ns)
-  among_listed ns l = (
-    λ e. let x = among_at thread_limit (padded ns) e in at_in ns (thread_limit - length ns) x.0 x.1,
-    λ i. let x = in_at ns (thread_limit - length ns) i in
-        at_among thread_limit (padded ns) x.0 (omega (arith, x.1)) x.2,
+  pub among_listed : (ns : List NodeNumber) → Tests (among (waiters_by (listed ns)) n) (Memᴰ n ns)
+  among_listed ns = (
+    λ e. let x = among_at (length ns) ns e in at_in ns x.0 x.1,
+    λ i. let x = in_at ns i in at_among (length ns) ns x.0 x.1 x.2,
   )
 
   -- ── turned round ──
@@ -230,29 +220,26 @@ module _ (n : NodeNumber) (some : n.0 ≢ 0) where
         by lost f g = lost_not ns g
         by (listed xs) f g = front current (met_from m.count m n prev false) xs (back_list prev xs f)
 
-    walking : good_count m.count ≡ true → (head : NodeNumber) (ns : List NodeNumber) → length ns ≤ thread_limit
+    walking : good_count m.count ≡ true → (head : NodeNumber) (ns : List NodeNumber)
         → turned (followed_of m head) ≡ listed ns → Wakes (Walking head)
-    walking good head ns short e =
+    walking good head ns e =
         subst (λ l. Tests (among (waiters_by l) n) (In n (turned (followed_of m head))))
         (pick_yes (good_count m.count) (followed_of m head) (followed_of m head) lost good refl)
         (by (followed_of m head) e)
       where
         by : (l : Listed) → turned l ≡ listed ns → Tests (among (waiters_by l) n) (In n (turned l))
         by lost g = lost_not ns g
-        by (listed xs) g =
-            let same : length xs ≡ length ns = sym (length-reverse xs) ∙ ap length (listed_same (reverse xs) ns g) in
-            let x = among_listed xs (omega arith) in
-            (λ h. in_turned xs (x.0 h), λ i. x.1 (turned_in xs i))
+        by (listed xs) g = let x = among_listed xs in (λ h. in_turned xs (x.0 h), λ i. x.1 (turned_in xs i))
 
     -- by its part: the node is set aside by it, and is on its waker's list, exactly if the trace says so
-    pub told : good_count m.count ≡ true → (part : Part) (ns : List NodeNumber) → length ns ≤ thread_limit
+    pub told : good_count m.count ≡ true → (part : Part) (ns : List NodeNumber)
         → held_by m part ≡ listed ns → Tests (is_aside part n) (In n (aside_by m part)) × Wakes part
-    told good Apart ns short e = (no_list, no_list)
-    told good Contending ns short e = (no_list, no_list)
-    told good Waiting ns short e = (no_list, no_list)
-    told good (Owning _) ns short e = (no_list, no_list)
-    told good (SettingAside _ tail) ns short e = (front tail false [] no_list, no_list)
-    told good (Walking head) ns short e = (no_list, walking good head ns short e)
-    told good (Reading who current) ns short e = (no_list, reading who current ns e)
-    told good (Completing who current prev) ns short e = (no_list, completing who current prev ns e)
-    told good Releasing ns short e = (no_list, no_list)
+    told good Apart ns e = (no_list, no_list)
+    told good Contending ns e = (no_list, no_list)
+    told good Waiting ns e = (no_list, no_list)
+    told good (Owning _) ns e = (no_list, no_list)
+    told good (SettingAside _ tail) ns e = (front tail false [] no_list, no_list)
+    told good (Walking head) ns e = (no_list, walking good head ns e)
+    told good (Reading who current) ns e = (no_list, reading who current ns e)
+    told good (Completing who current prev) ns e = (no_list, completing who current prev ns e)
+    told good Releasing ns e = (no_list, no_list)

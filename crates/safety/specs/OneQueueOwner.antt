@@ -18,7 +18,7 @@ use Rattle.queue.specs.Tests.{never}
 use Rattle.queue.specs.Updates.{eq?}
 use Rattle.invariant.specs.Table.{about, weight}
 use Rattle.invariant.proofs.Exclusion.{inside, one_owner, unowned}
-use Rattle.invariant.proofs.Events.{Ok}
+use Rattle.invariant.proofs.Events.{Sound}
 use Rattle.safety.specs.Lists.{aside_by}
 use Rattle.safety.specs.Parts.{same_part}
 use Rattle.safety.specs.Statements.{In, OwnsQueue, OneOwner, Owned}
@@ -39,7 +39,7 @@ weighs : (b : Bool) → 1 ≤ weight b → b ≡ true
 weighs true l = refl
 weighs false l = absurd (omega (arith, l))
 
-module _ (m : Machine) (ok : Ok m) where
+module _ (m : Machine) (ok : Sound m) where
   abbrev owner : ℕ → Bool
   owner t = (about (thread_at m t).place).owner
 

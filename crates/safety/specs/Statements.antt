@@ -8,7 +8,7 @@
 -- owner of the queue; no thread left asleep; refusal 8, and the nodes touched; replays.
 -- Not here: that each call does its work, which is said of a log of a thread's calls (Calls.antt).
 -- Assumes nothing.
-use Rattle.std.specs.Prelude.{ℕ, ◌+◌, ◌*◌, ◌≤◌, ◌<◌, Bool, true, false, ◌≢◌, ◌⊎◌, ◌≡◌, take}
+use Rattle.std.specs.Prelude.{ℕ, ◌+◌, ◌*◌, ◌≤◌, ◌<◌, Bool, true, false, ◌≢◌, ◌⊎◌, ◌≡◌, take, Ok}
 use mathlib.Core.List.{List, [], ◌∷◌, ◌++◌, Memᴰ}
 use Rattle.word.specs.Flags.{LOCKED, SINGLE, queued, queue_locked, downgraded}
 use Rattle.word.specs.Number.{none, thread, node_of}
@@ -17,8 +17,8 @@ use Rattle.word.specs.declared.number.ThreadNumber.{ThreadNumber}
 use Rattle.state.specs.Access.{touched_of}
 use Rattle.state.specs.Answer.{refusal_number}
 use Rattle.state.specs.Machine.{thread_limit, thread_at, node_at, fresh_of}
+use Rattle.state.specs.declared.answer.Refusal.{Refusal}
 use Rattle.state.specs.declared.answer.Refusal.TheVariants.{Damaged}
-use Rattle.state.specs.declared.answer.Verdict.TheVariants.{Fine}
 use Rattle.state.specs.declared.holding.Holding.{Holding}
 use Rattle.state.specs.declared.holding.Holding.TheVariants.{Nothing, Read, Write}
 use Rattle.state.specs.declared.machine.Machine.{Machine}
@@ -34,9 +34,10 @@ use Rattle.promises.specs.Tables.{subtracting}
 use Rattle.schedule.specs.Replay.{stop_number}
 use Rattle.schedule.specs.Whole.{file_stop_number}
 use Rattle.schedule.specs.declared.replay.Replayed.{Replayed as Replay}
-use Rattle.schedule.specs.declared.whole.FileReplayed.{FileReplayed}
+use Rattle.schedule.specs.declared.whole.FileStop.{FileStop}
 use Rattle.listing.specs.Listing.{Listed, lost, listed, node_by, listed_of, waiters_of}
 use Rattle.listing.specs.ReaderCount.{oldest, readers_of}
+use Rattle.listing.specs.declared.reader_count.Readers.{Readers}
 use Rattle.queue.specs.Updates.{upd}
 use Rattle.standing.specs.Part.{part_of, registered_of}
 use Rattle.standing.specs.Rouses.{owns_of}
@@ -159,9 +160,10 @@ pub record Counted (m : Machine) (r : ℕ) : Type 0 where
   pub downgrade : 1 ≤ r → queued m.word ≡ true → downgraded m.word ≡ true → r ≡ 1
   pub next : 1 ≤ r → queued m.word ≡ true → downgraded m.word ≡ false
       → (ns : List NodeNumber) → listed_of m ≡ listed ns → (node_by m (oldest ns)).next.0 ≡ SINGLE * r
-  pub traced : (readers_of m).readers ≡ r
-  pub agrees : (readers_of m).agrees ≡ true
-  pub fine : (readers_of m).verdict ≡ Fine
+  pub found : Readers
+  pub fine : readers_of m ≡ Ok found
+  pub traced : found.readers ≡ r
+  pub agrees : found.agrees ≡ true
 
 -- r: grants of read and downgrades less releases, which are no more
 abbrev pub ReaderCount : Program → Type 0
@@ -194,8 +196,8 @@ NoRepeats (k ∷ ns) = (Memᴰ k ns → ⊥) × NoRepeats ns
 
 -- the listing refuses nothing, has no repeats, and is the newest registrations of the run, newest first
 pub record Listing (m : Machine) (made : List NodeNumber) : Type 0 where
-  pub fine : (waiters_of m).verdict ≡ Fine
   pub waiting : ℕ
+  pub fine : waiters_of m ≡ Ok (record { items = take waiting made })
   pub is : listed_of m ≡ listed (take waiting made)
   pub once : NoRepeats (take waiting made)
 
@@ -346,17 +348,17 @@ TouchedAlive event = (n : ℕ) (es : List Event) (t : ThreadNumber) → Touched 
 -- ── replays ──
 
 -- a replay from a machine reached from fresh never stops at 8
-abbrev pub NeverStopsAtEight : (Machine → List ℕ → Replay) → Type 0
+abbrev pub NeverStopsAtEight : (Machine → List ℕ → Replay Refusal) → Type 0
 NeverStopsAtEight replay =
     (n : ℕ) (es : List Event) (s : List ℕ) → stop_number (replay (reached n es) s).stop ≢ refusal_number Damaged
 
 -- the machine that a replay of any file hands back is reached from fresh, so all of the above holds of it; and the
 -- replay is never refused 8
-pub record Replayed (replay : FileReplayed) : Type 0 where
+pub record Replayed (replay : Replay FileStop) : Type 0 where
   pub count : ℕ
   pub events : List Event
   pub machine : replay.machine ≡ reached count events
   pub not_eight : file_stop_number replay.stop ≢ refusal_number Damaged
 
-abbrev pub ReplayedSafe : (List ℕ → FileReplayed) → Type 0
+abbrev pub ReplayedSafe : (List ℕ → Replay FileStop) → Type 0
 ReplayedSafe replay = (file : List ℕ) → Replayed (replay file)

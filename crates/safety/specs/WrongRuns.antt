@@ -4,7 +4,7 @@
 -- Not here: wrong programs that one event gives away (crate promises); wrong replays (crate schedule).
 -- Assumes nothing.
 use Rattle.std.specs.Prelude.{ℕ, zero, suc, ◌+◌, ◌-◌, ◌<◌, Bool, true, false, List, [], ◌∷◌, ◌++◌, ◌≡◌, refl, eqb}
-use Rattle.std.specs.Prelude.{length}
+use Rattle.std.specs.Prelude.{length, Err, Ok, Option, Some, None, Result}
 use Rattle.std.proofs.lemmas.Bool.{false≢true}
 use mathlib.Core.List.Memᴰ
 use Rattle.std.proofs.Common.{inl, inr, ⊎_elim, sym, ap, ◌∙◌, subst, arith}
@@ -12,15 +12,13 @@ use Rattle.word.specs.Base.{pick}
 use Rattle.word.specs.Flags.{word, queued}
 use Rattle.word.specs.Number.{none, thread, node, node_of}
 use Rattle.word.specs.declared.number.NodeNumber.{NodeNumber}
-use Rattle.word.specs.declared.number.Owner.{Owner}
-use Rattle.word.specs.declared.number.Owner.TheVariants.{Nobody, Thread as Somebody}
+use Rattle.word.specs.declared.number.ThreadNumber.{ThreadNumber}
 use Rattle.state.specs.Access.{access_of}
 use Rattle.state.specs.Machine.{node_at, thread_at}
-use Rattle.state.specs.View.{at, end, stays, writes, completes, walk_from}
+use Rattle.state.specs.View.{at, end, stays, writes, completes, walk_from, Stepped}
 use Rattle.state.specs.declared.answer.Answer.TheVariants.{Done}
+use Rattle.state.specs.declared.answer.Refusal.{Refusal}
 use Rattle.state.specs.declared.answer.Refusal.TheVariants.{Damaged}
-use Rattle.state.specs.declared.answer.Verdict.{Verdict}
-use Rattle.state.specs.declared.answer.Verdict.TheVariants.{Fine, Refused as Halted}
 use Rattle.state.specs.declared.holding.Holding.{Holding}
 use Rattle.state.specs.declared.holding.Holding.TheVariants.{Nothing, Read, Write}
 use Rattle.state.specs.declared.machine.Machine.{Machine}
@@ -31,8 +29,6 @@ use Rattle.state.specs.declared.place.Walk.TheVariants.{Queue}
 use Rattle.state.specs.declared.view.Change.{Change}
 use Rattle.state.specs.declared.view.Next.{Next}
 use Rattle.state.specs.declared.view.View.{View}
-use Rattle.state.specs.declared.view.Stepped.{Stepped}
-use Rattle.state.specs.declared.view.Stepped.TheVariants.{To, Refused}
 use Rattle.lock.specs.Advance.{advance_of}
 use Rattle.lock.specs.Effect.{LockEffect, keeps, grants_read, grants_write, releases_read, releases_write, downgrades}
 use Rattle.lock.specs.Effect.{lock_effect, queue_effect, stand_of}
@@ -45,20 +41,20 @@ use Rattle.promises.specs.Tables.{subtracting}
 use Rattle.schedule.specs.Replay.{stopped_of}
 use Rattle.schedule.specs.Whole.{file_replay_of}
 use Rattle.schedule.specs.declared.replay.Replayed.{Replayed as Replay}
-use Rattle.schedule.specs.declared.replay.Stop.TheVariants.{Refused as Stopped}
-use Rattle.schedule.specs.declared.whole.FileReplayed.{FileReplayed}
+use Rattle.schedule.specs.declared.whole.FileStop.{FileStop}
 use Rattle.schedule.specs.declared.whole.FileStop.TheVariants.{Refused as FileStopped}
-use Rattle.listing.specs.Listing.{Listed, lost, listed, listed_of, to_set, to_tail}
+use Rattle.listing.specs.Listing.{Listed, lost, listed, listed_of, to_set, to_tail, Waiters}
 use Rattle.listing.specs.ReaderCount.{reads_below}
+use Rattle.listing.specs.declared.reader_count.Readers.{Readers}
 use Rattle.standing.specs.Look.{among_below, met_from}
 use Rattle.standing.specs.Stands.{held_below}
 use Rattle.queue.specs.Updates.{upd}
 use Rattle.safety.specs.Lists.{back_from, wakes_in}
-use Rattle.safety.specs.Statements.{Event, ran_by, reached_by, CountStays, holders_of, Plainly, PlainLock}
-use Rattle.safety.specs.Statements.{Whose, nobodys, readers, writers, MutualExclusion, ChangesWithTheWord}
-use Rattle.safety.specs.Statements.{ReaderCount, ListingTotal, ListsMove, Waits, Spot, queue, aside, waker, In}
-use Rattle.safety.specs.Statements.{OneSpot, OnePlace, StandingIsItsList, OneQueueOwner, Resting, NobodyStuck}
-use Rattle.safety.specs.Statements.{NeverEight, TouchedAlive, NeverStopsAtEight, ReplayedSafe}
+use Rattle.safety.specs.Statements.{Event, ran_by, reached_by, CountStays, holders_of, Plainly, PlainLock, Whose}
+use Rattle.safety.specs.Statements.{nobodys, readers, writers, MutualExclusion, ChangesWithTheWord, ReaderCount}
+use Rattle.safety.specs.Statements.{ListingTotal, ListsMove, Waits, Spot, queue, aside, waker, In, OneSpot, OnePlace}
+use Rattle.safety.specs.Statements.{StandingIsItsList, OneQueueOwner, Resting, NobodyStuck, NeverEight, TouchedAlive}
+use Rattle.safety.specs.Statements.{NeverStopsAtEight, ReplayedSafe}
 use Rattle.safety.specs.Calls.{log_of, EachCallDoesItsWork}
 
 -- ── programs and runs ──
@@ -69,8 +65,8 @@ changing p f = program_of (changed_at (which p) f)
 
 -- where it is not refused
 abbrev from : (View → Change → Stepped) → View → Stepped → Stepped
-from f v (To c) = f v c
-from f v (Refused r) = Refused r
+from f v (Ok c) = f v c
+from f v (Err r) = Err r
 
 abbrev next_of : Change → Next
 next_of c = record { place = c.thread.place; answer = c.answer }
@@ -170,10 +166,15 @@ abbrev counts_readers_in_a_queued_word : Program
 counts_readers_in_a_queued_word =
     changing At.ReadUnlockLoad (λ v s. pick (queued v.word) (writes v (word (v.word.0 - 16)) Nothing (end Done)) s)
 
+abbrev agrees_in : Result Readers Refusal → Bool
+agrees_in (Ok r) = r.agrees
+agrees_in (Err r) = false
+
 -- threads 0 and 1 read; thread 2 writes, and registers with its 10th step; thread 0 unlocks
 pub counts_readers_in_a_queued_word_refuted : ReaderCount counts_readers_in_a_queued_word → ⊥
 unfolding ran_by advance_of access_of marked_of which reads_below to_set to_tail
-counts_readers_in_a_queued_word_refuted holds = false≢true (holds 3 two_readers).2.agrees
+counts_readers_in_a_queued_word_refuted holds =
+    let counted = (holds 3 two_readers).2 in false≢true (ap agrees_in counted.fine ∙ counted.agrees)
   where
     two_readers : List Event
     two_readers =
@@ -185,9 +186,9 @@ counts_readers_in_a_queued_word_refuted holds = false≢true (holds 3 two_reader
 abbrev registers_unfilled : Program
 registers_unfilled = changing (At.ContendLoad false 0) (from (λ v c. stays v (next_of c)))
 
-abbrev is_fine : Verdict → Bool
-is_fine Fine = true
-is_fine (Halted r) = false
+abbrev is_fine : Result Waiters Refusal → Bool
+is_fine (Ok w) = true
+is_fine (Err r) = false
 
 pub registers_unfilled_refuted : ListingTotal registers_unfilled → ⊥
 unfolding ran_by advance_of access_of marked_of which to_set to_tail
@@ -199,9 +200,9 @@ reads_prev_after_completing =
     changing (At.WakeStore Leaver none none)
     (from (λ v c. completes v c.node c.woken (back c.woken (next_of c))))
   where
-    back : Owner → Next → Next
-    back Nobody next = next
-    back (Somebody t) next = at (At.WakePrev Leaver (node_of t))
+    back : Option ThreadNumber → Next → Next
+    back None next = next
+    back (Some t) next = at (At.WakePrev Leaver (node_of t))
 
 abbrev listed_length : Listed → ℕ
 listed_length lost = 0
@@ -274,7 +275,7 @@ walks_always_refuted holds = (holds 2 registered).unlocked refl 1 refl
 -- 'Completing stores completed and unparks': here it sets no token
 abbrev completing_sets_no_token : Program
 completing_sets_no_token =
-    changing (At.WakeStore Leaver none none) (from (λ v c. completes v c.node Nobody (next_of c)))
+    changing (At.WakeStore Leaver none none) (from (λ v c. completes v c.node None (next_of c)))
 
 pub completing_sets_no_token_refuted : NobodyStuck completing_sets_no_token → ⊥
 unfolding ran_by advance_of access_of marked_of which
@@ -310,14 +311,14 @@ reads_prev_after_completing_touches_refuted holds = ⊎_elim own waits (holds 2 
 -- ── replays ──
 
 -- '8 is never given for a machine reached from fresh': here each replay stops at it, and each file's
-abbrev stops_at_eight : Machine → List ℕ → Replay
-stops_at_eight m s = stopped_of m 0 (Stopped Damaged)
+abbrev stops_at_eight : Machine → List ℕ → Replay Refusal
+stops_at_eight m s = stopped_of m 0 (Err Damaged)
 
 pub stops_at_eight_refuted : NeverStopsAtEight stops_at_eight → ⊥
 stops_at_eight_refuted holds = holds 1 [] [] refl
 
-abbrev file_stops_at_eight : List ℕ → FileReplayed
-file_stops_at_eight file = record { machine = (file_replay_of file).machine; run = 0; stop = FileStopped Damaged }
+abbrev file_stops_at_eight : List ℕ → Replay FileStop
+file_stops_at_eight file = record { machine = (file_replay_of file).machine; run = 0; stop = Err (FileStopped Damaged) }
 
 pub file_stops_at_eight_refuted : ReplayedSafe file_stops_at_eight → ⊥
 file_stops_at_eight_refuted holds = (holds []).not_eight refl

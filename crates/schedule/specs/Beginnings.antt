@@ -2,13 +2,13 @@
 -- at each event that it reaches.
 -- Assumes nothing.
 use Prim.Native.Nat.{ℕ, zero, suc, ◌+◌, ◌*◌, ◌/◌, ◌<◌, ◌≤◌}
-use Rattle.std.specs.Prelude.{Bool, true, false, List, ◌≡◌, ltb, length, drop}
+use Rattle.std.specs.Prelude.{Bool, true, false, List, ◌≡◌, ltb, length, drop, Err, Ok}
 use Rattle.std.proofs.Math.Path.{refl, sym}
 use Rattle.std.proofs.Common.{ap, ◌∙◌, ltb-true, ltb-false}
 use native.Mathlib.Omega.{arith}
+use Rattle.state.specs.Answer.{Reply}
 use Rattle.state.specs.declared.machine.Machine.{Machine}
-use Rattle.state.specs.declared.answer.Reply.{Reply}
-use Rattle.state.specs.declared.answer.Reply.TheVariants.{Accepted, Refused}
+use Rattle.state.specs.declared.answer.Refusal.{Refusal}
 use Rattle.schedule.specs.File.{event_width}
 use Rattle.schedule.specs.Replay.{event_at, after, replay_of}
 use Rattle.schedule.specs.ReplayLaws.{after_zero, ended_here, refused_here, accepted_here}
@@ -27,17 +27,17 @@ module _ (m : Machine) (s : List ℕ) where
 
   by_reply : (k : ℕ) (r : Reply) → r ≡ reply_at m s k → k < length s / event_width → Reaches k → Way k
   unfolding state_at
-  by_reply k (Refused refusal) e h a =
+  by_reply k (Err refusal) e h a =
       ends (refused refusal h (sym e)
       (sym a.same ∙ refused_here (state_at m s k) s k (event_at (state_at m s k) s k) h refl refusal (sym e)))
-  by_reply k (Accepted answer woken) e h a =
+  by_reply k (Ok told) e h a =
       let f : k + 1 ≡ suc k = omega arith in
-      goes (record { answer = answer; woken = woken; is = sym e })
+      goes (record { answer = told.answer; woken = told.woken; is = sym e })
       (record {
         there = omega arith;
         same =
             rw f at
-            (sym (accepted_here (state_at m s k) s k (event_at (state_at m s k) s k) h refl answer woken (sym e))
+            (sym (accepted_here (state_at m s k) s k (event_at (state_at m s k) s k) h refl told.answer told.woken (sym e))
             ∙ a.same);
       })
 
@@ -52,8 +52,8 @@ module _ (m : Machine) (s : List ℕ) where
 
   -- a replay that ends after k events ran k
   pub end_run : (k : ℕ) → End m s k → (replay_of m s).run ≡ k
-  end_run k (none_left h e) = ap (λ (r : Replayed). r.run) e
-  end_run k (refused refusal h r e) = ap (λ (r : Replayed). r.run) e
+  end_run k (none_left h e) = ap (λ (r : Replayed Refusal). r.run) e
+  end_run k (refused refusal h r e) = ap (λ (r : Replayed Refusal). r.run) e
 
   step : (k : ℕ) → suc k ≤ (replay_of m s).run → Way k → Reaches (suc k)
   step k h (ends e) = absurd (omega (arith, end_run k e))
@@ -66,7 +66,7 @@ module _ (m : Machine) (s : List ℕ) where
 
   stop : Way (replay_of m s).run → End m s (replay_of m s).run
   stop (ends e) = e
-  stop (goes a r) = absurd (omega (arith, ap (λ (x : Replayed). x.run) r.same))
+  stop (goes a r) = absurd (omega (arith, ap (λ (x : Replayed Refusal). x.run) r.same))
 
   pub end : End m s (replay_of m s).run
   end = stop (way (replay_of m s).run (climb (replay_of m s).run (omega arith)))
@@ -84,7 +84,7 @@ module _ (m : Machine) (s : List ℕ) where
 
   never_both : (k : ℕ) → Accepts m s k → End m s k → k < length s / event_width → ⊥
   never_both k a (none_left h e) j = omega arith
-  never_both k a (refused refusal h r e) j = let z : ◌≡◌ {A = ℕ} 0 1 = cc (a.is, r) in omega arith
+  never_both k a (refused refusal h r e) j = cc (a.is, r)
 
   longest_by : (k : ℕ) → Beginning m s k → (b : Bool) → ltb (replay_of m s).run k ≡ b → k ≤ (replay_of m s).run
   longest_by k a true e =

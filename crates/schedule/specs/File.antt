@@ -1,13 +1,12 @@
 -- The schedule file's check, by document 01: its numbers, and the order of its refusals 10 to 14. Another version of
 -- the file changes the numbers here and not the form.
 -- Assumes nothing.
-use Rattle.std.specs.Prelude.{ℕ, ◌+◌, ◌-◌, ◌*◌, ◌/◌, ◌%◌, Bool, false, List, leb, eqb, length, get_or}
+use Rattle.std.specs.Prelude.{ℕ, ◌+◌, ◌-◌, ◌*◌, ◌/◌, ◌%◌, Bool, false, List, Result, Ok, Err, leb, eqb, length, get_or}
 use Rattle.word.specs.Base.{pick}
 use Rattle.state.specs.Machine.{good_count}
 use Rattle.schedule.specs.declared.file.FileRefusal.{FileRefusal}
 use Rattle.schedule.specs.declared.file.FileRefusal.TheVariants.{TooShort, Version, Length, Threads, TooMany}
-use Rattle.schedule.specs.declared.file.Checked.{Checked}
-use Rattle.schedule.specs.declared.file.Checked.TheVariants.{Accepted, Refused}
+use Rattle.schedule.specs.declared.file.Head.{Head}
 
 abbrev pub file_number : FileRefusal → ℕ
 file_number TooShort = 10
@@ -51,13 +50,16 @@ threads_in s = get_or s counted_from 0
 abbrev pub events_in : List ℕ → ℕ
 events_in s = (length s - header_length) / event_width
 
-abbrev pub unless : Bool → FileRefusal → Checked → Checked
-unless good refusal later = pick good later (Refused refusal)
+abbrev pub unless : Bool → FileRefusal → Result Head FileRefusal → Result Head FileRefusal
+unless good refusal later = pick good later (Err refusal)
 
-unfoldable pub checked_of : List ℕ → Checked
+abbrev pub head_of : List ℕ → Head
+head_of s = record { threads = threads_in s; events = events_in s }
+
+unfoldable pub checked_of : List ℕ → Result Head FileRefusal
 checked_of s =
     unless (leb header_length (length s)) TooShort
     (unless (eqb (get_or s 0 0) file_version) Version
     (unless (right_length s) Length
     (unless (good_count (threads_in s)) Threads
-    (unless (leb (events_in s) event_limit) TooMany (Accepted (threads_in s) (events_in s))))))
+    (unless (leb (events_in s) event_limit) TooMany (Ok (head_of s))))))

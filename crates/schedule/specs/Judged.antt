@@ -1,15 +1,16 @@
 -- The file's check in words: each refusal exactly on its condition, where those before it do not hold.
 -- Assumes nothing.
-use Rattle.std.specs.Prelude.{ℕ, ◌+◌, ◌-◌, ◌*◌, ◌%◌, ◌<◌, ◌≤◌, true, false, List, ◌≡◌, T, leb, eqb, length, get_or}
+use Rattle.std.specs.Prelude.{ℕ, ◌+◌, ◌-◌, ◌*◌, ◌%◌, ◌<◌, ◌≤◌, true, false, List, Result, Ok, Err, ◌≡◌}
+use Rattle.std.specs.Prelude.{T, leb, eqb, length, get_or}
 use Rattle.std.proofs.Common.{sym, subst, ◌∙◌, arith, leb-true, leb-false, eqb-true, eq-eqb}
 use Rattle.std.proofs.lemmas.Bool.{eqb-false}
 use Rattle.word.specs.Cases.{pick_both, pick_first}
 use Rattle.state.specs.Machine.{good_count}
 use Rattle.schedule.specs.File.{file_version, counted_from, header_length, event_width, event_limit, stated_length}
-use Rattle.schedule.specs.File.{right_length, threads_in, events_in, unless, checked_of}
+use Rattle.schedule.specs.File.{right_length, threads_in, events_in, unless, head_of, checked_of}
+use Rattle.schedule.specs.declared.file.FileRefusal.{FileRefusal}
 use Rattle.schedule.specs.declared.file.FileRefusal.TheVariants.{TooShort, Version, Length, Threads, TooMany}
-use Rattle.schedule.specs.declared.file.Checked.{Checked}
-use Rattle.schedule.specs.declared.file.Checked.TheVariants.{Accepted, Refused}
+use Rattle.schedule.specs.declared.file.Head.{Head}
 
 not_both : false ≡ true → ⊥
 not_both e = subst T (sym e) tt
@@ -33,36 +34,36 @@ module _ (s : List ℕ) where
     pub measured : Measured
     pub threads : good_count (threads_in s) ≡ true
 
-  pub data Judged : Checked → Type 0 where
-    too_short : length s < header_length → Judged (Refused TooShort)
-    version : header_length ≤ length s → (get_or s 0 0 ≡ file_version → ⊥) → Judged (Refused Version)
-    length_wrong : Versioned → (Odd → ⊥) → Judged (Refused Length)
-    threads_wrong : Measured → good_count (threads_in s) ≡ false → Judged (Refused Threads)
-    too_many : Peopled → event_limit < events_in s → Judged (Refused TooMany)
-    accepted : Peopled → events_in s ≤ event_limit → Judged (Accepted (threads_in s) (events_in s))
+  pub data Judged : Result Head FileRefusal → Type 0 where
+    too_short : length s < header_length → Judged (Err TooShort)
+    version : header_length ≤ length s → (get_or s 0 0 ≡ file_version → ⊥) → Judged (Err Version)
+    length_wrong : Versioned → (Odd → ⊥) → Judged (Err Length)
+    threads_wrong : Measured → good_count (threads_in s) ≡ false → Judged (Err Threads)
+    too_many : Peopled → event_limit < events_in s → Judged (Err TooMany)
+    accepted : Peopled → events_in s ≤ event_limit → Judged (Ok (head_of s))
 
-  by_count : Peopled → Judged (unless (leb (events_in s) event_limit) TooMany (Accepted (threads_in s) (events_in s)))
+  by_count : Peopled → Judged (unless (leb (events_in s) event_limit) TooMany (Ok (head_of s)))
   by_count p =
       pick_both Judged
       (leb (events_in s) event_limit)
-      (Accepted (threads_in s) (events_in s))
-      (Refused TooMany)
+      (Ok (head_of s))
+      (Err TooMany)
       (λ e. accepted p (leb-true (events_in s) event_limit e))
       (λ e. too_many p (leb-false (events_in s) event_limit e))
 
-  abbrev counted : Checked
-  counted = unless (leb (events_in s) event_limit) TooMany (Accepted (threads_in s) (events_in s))
+  abbrev counted : Result Head FileRefusal
+  counted = unless (leb (events_in s) event_limit) TooMany (Ok (head_of s))
 
   by_threads : Measured → Judged (unless (good_count (threads_in s)) Threads counted)
   by_threads p =
       pick_both Judged
       (good_count (threads_in s))
       counted
-      (Refused Threads)
+      (Err Threads)
       (λ e. by_count (record { measured = p; threads = e }))
       (λ e. threads_wrong p e)
 
-  abbrev peopled : Checked
+  abbrev peopled : Result Head FileRefusal
   peopled = unless (good_count (threads_in s)) Threads counted
 
   odd_true : right_length s ≡ true → Odd
@@ -85,7 +86,7 @@ module _ (s : List ℕ) where
       pick_both Judged
       (right_length s)
       peopled
-      (Refused Length)
+      (Err Length)
       (λ e. by_threads (record {
         versioned = p;
         odd = odd_true e;
@@ -99,7 +100,7 @@ module _ (s : List ℕ) where
       pick_both Judged
       (eqb (get_or s 0 0) file_version)
       (unless (right_length s) Length peopled)
-      (Refused Version)
+      (Err Version)
       (λ e. by_length (record { sized = h; version = eqb-true (get_or s 0 0) file_version e }))
       (λ e. version h (eqb-false (get_or s 0 0) file_version e))
 
@@ -109,6 +110,6 @@ module _ (s : List ℕ) where
       pick_both Judged
       (leb header_length (length s))
       (unless (eqb (get_or s 0 0) file_version) Version (unless (right_length s) Length peopled))
-      (Refused TooShort)
+      (Err TooShort)
       (λ e. by_version (leb-true header_length (length s) e))
       (λ e. too_short (leb-false header_length (length s) e))

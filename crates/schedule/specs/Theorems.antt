@@ -2,7 +2,7 @@
 -- states, and a refused file runs nothing.
 -- Assumes nothing.
 use Prim.Native.Nat.{ℕ, zero, suc, ◌+◌, ◌*◌, ◌/◌, ◌<◌, ◌≤◌}
-use Rattle.std.specs.Prelude.{List, ◌∷◌, ◌≡◌, length, take, drop}
+use Rattle.std.specs.Prelude.{List, ◌∷◌, ◌≡◌, length, take, drop, Err, Result, Ok}
 use Rattle.std.proofs.Math.Path.{refl, ap}
 use Rattle.std.proofs.Common.{sym, subst, ◌∙◌, length-take-le, get_or-take}
 use native.Mathlib.Omega.{arith}
@@ -10,7 +10,6 @@ use Rattle.word.specs.Number.{thread}
 use Rattle.state.specs.declared.machine.Machine.{Machine}
 use Rattle.state.specs.declared.machine.Outcome.{Outcome}
 use Rattle.state.specs.declared.answer.Refusal.{Refusal}
-use Rattle.state.specs.declared.answer.Reply.TheVariants.{Refused}
 use Rattle.schedule.specs.File.{event_width, checked_of}
 use Rattle.schedule.specs.Replay.{code_at, thread_at, event_at, stopped_of, replay_of}
 use Rattle.schedule.specs.ReplayLaws.{drop_event}
@@ -20,9 +19,7 @@ use Rattle.schedule.specs.CursorLaws.{moved_ended, moved_refused, moved_accepted
 use Rattle.schedule.specs.Statements.{state_at, reply_at, Accepts, Beginning, End, none_left, refused, seen_at}
 use Rattle.schedule.specs.Beginnings.{end, ran_accepted, longest}
 use Rattle.schedule.specs.declared.file.FileRefusal.{FileRefusal}
-use Rattle.schedule.specs.declared.file.Checked.{Checked}
-use Rattle.schedule.specs.declared.file.Checked.TheVariants.{Refused as Denied}
-use Rattle.schedule.specs.declared.replay.Stop.TheVariants.{Ran, Refused as Stopped}
+use Rattle.schedule.specs.declared.file.Head.{Head}
 use Rattle.schedule.specs.declared.replay.Replayed.{Replayed}
 use Rattle.schedule.specs.declared.cursor.Cursor.{Cursor}
 use Rattle.schedule.specs.declared.cursor.Moved.{Moved}
@@ -77,37 +74,37 @@ module _ (m : Machine) (s : List ℕ) (k : ℕ) (h : k ≤ (replay_of m s).run) 
       let high = (ran_accepted m first (replay_of m first).run (omega arith)).there in
       omega (arith, first_length)
 
-  by_end : End m first k → replay_of m first ≡ stopped_of (state_at m s k) k Ran
-  by_end (none_left l e) = e ∙ ap (λ (x : Machine). stopped_of x k Ran) (same_state k (omega arith))
+  by_end : End m first k → replay_of m first ≡ stopped_of (state_at m s k) k (Ok tt)
+  by_end (none_left l e) = e ∙ ap (λ (x : Machine). stopped_of x k (Ok tt)) (same_state k (omega arith))
   by_end (refused refusal l r e) = absurd (omega (arith, first_length))
 
   -- every shorter beginning of whole events is accepted, and leads to the state that the replay went through
-  pub beginning_runs : replay_of m (take (event_width * k) s) ≡ stopped_of (state_at m s k) k Ran
+  pub beginning_runs : replay_of m (take (event_width * k) s) ≡ stopped_of (state_at m s k) k (Ok tt)
   beginning_runs = by_end (subst (λ (n : ℕ). End m first n) all_run (end m first))
 
 -- ── the unread rest ──
 
 by_stop : (m : Machine) (s : List ℕ) (k : ℕ) (refusal : Refusal)
-    → (replay_of m s).stop ≡ Stopped refusal
+    → (replay_of m s).stop ≡ Err refusal
     → End m s k
-    → (k < length s / event_width) × (reply_at m s k ≡ Refused refusal)
+    → (k < length s / event_width) × (reply_at m s k ≡ Err refusal)
 by_stop m s k refusal p (none_left h e) =
-    let ran : (replay_of m s).stop ≡ Ran = ap (λ (r : Replayed). r.stop) e in
+    let ran : (replay_of m s).stop ≡ Ok tt = ap (λ (r : Replayed Refusal). r.stop) e in
     let z : ◌≡◌ {A = ℕ} 0 1 = cc (p, ran) in
     absurd (omega arith)
 by_stop m s k refusal p (refused other h r e) =
-    let stopped : (replay_of m s).stop ≡ Stopped other = ap (λ (r : Replayed). r.stop) e in
+    let stopped : (replay_of m s).stop ≡ Err other = ap (λ (r : Replayed Refusal). r.stop) e in
     let same : other ≡ refusal = cc (p, stopped) in
-    (h, r ∙ ap Refused same)
+    (h, r ∙ ap Err same)
 
 -- where an event is refused, the rest begins with it
 pub rest_begins_refused : (m : Machine) (s : List ℕ) (refusal : Refusal)
-    → (replay_of m s).stop ≡ Stopped refusal
+    → (replay_of m s).stop ≡ Err refusal
     → (drop (event_width * (replay_of m s).run) s
     ≡ code_at s (replay_of m s).run
     ∷ (thread_at s (replay_of m s).run).0
     ∷ drop (event_width * ((replay_of m s).run + 1)) s)
-    × (reply_at m s (replay_of m s).run ≡ Refused refusal)
+    × (reply_at m s (replay_of m s).run ≡ Err refusal)
 rest_begins_refused m s refusal p =
     let b = by_stop m s (replay_of m s).run refusal p (end m s) in
     (drop_event s (replay_of m s).run b.0, b.1)
@@ -136,7 +133,7 @@ module _ (m : Machine) (s : List ℕ) where
       → k ≤ (replay_of m s).run
       → cursor_after k (start_of m) s ≡ record { machine = (replay_of m (take (event_width * k) s)).machine; at = k }
   cursor_follows k h =
-      goes k h ∙ ap (λ (r : Replayed). record { machine = r.machine; at = k }) (sym (beginning_runs m s k h))
+      goes k h ∙ ap (λ (r : Replayed Refusal). record { machine = r.machine; at = k }) (sym (beginning_runs m s k h))
 
   stays : (k : ℕ) → End m s k
       → moved_of (standing m s k) s ≡ moved_to (standing m s k) (seen_at s k (replay_of m s).stop)
@@ -153,9 +150,9 @@ module _ (m : Machine) (s : List ℕ) where
 
 -- it runs nothing, and hands back all its bytes and a fresh machine of one thread
 pub refused_file : (s : List ℕ) (refusal : FileRefusal)
-    → checked_of s ≡ Denied refusal
+    → checked_of s ≡ Err refusal
     → (file_replay_of s ≡ file_refused_of refusal) × (file_rest_of s ≡ s)
 refused_file s refusal e = (
-  ap (λ (c : Checked). file_replay_by c s) e,
-  ap (λ (c : Checked). file_rest_by (file_replay_by c s).stop (file_replay_by c s).run s) e,
+  ap (λ (c : Result Head FileRefusal). file_replay_by c s) e,
+  ap (λ (c : Result Head FileRefusal). file_rest_by (file_replay_by c s).stop (file_replay_by c s).run s) e,
 )

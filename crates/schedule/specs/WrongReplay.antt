@@ -3,12 +3,12 @@
 -- In this order: the statement over any replay, and that it holds of the replay; one event too many; none at all.
 -- Not here: wrong programs for one event (crate promises) and over runs (crate safety).
 -- Assumes nothing.
-use Rattle.std.specs.Prelude.{ℕ, zero, suc, ◌+◌, ◌<◌, ◌≤◌, List, [], ◌∷◌, refl}
+use Rattle.std.specs.Prelude.{ℕ, zero, suc, ◌+◌, ◌<◌, ◌≤◌, List, [], ◌∷◌, refl, None}
 use Rattle.std.proofs.Common.{arith}
-use Rattle.word.specs.declared.number.Owner.TheVariants.{Nobody}
 use Rattle.state.specs.Access.{access_of}
 use Rattle.state.specs.Machine.{fresh_of}
 use Rattle.state.specs.declared.answer.Answer.TheVariants.{Begun}
+use Rattle.state.specs.declared.answer.Refusal.{Refusal}
 use Rattle.state.specs.declared.machine.Machine.{Machine}
 use Rattle.lock.specs.Event.{event_of}
 use Rattle.schedule.specs.Replay.{stopped_of, replay_of}
@@ -17,7 +17,7 @@ use Rattle.schedule.specs.Theorems.{run_is_longest}
 use Rattle.schedule.specs.declared.replay.Replayed.{Replayed}
 
 abbrev pub Replay : Type 0
-Replay = Machine → List ℕ → Replayed
+Replay = Machine → List ℕ → Replayed Refusal
 
 -- the events run are an accepted beginning, and no longer one is accepted
 abbrev pub RunIsLongest : Replay → Type 0
@@ -50,7 +50,7 @@ begun_read = record { there = there; accepted = first }
     there = omega arith
 
     first : (i : ℕ) → i < 1 → Accepts (fresh_of 1).machine (0 ∷ 0 ∷ []) i
-    first zero l = record { answer = Begun; woken = Nobody; is = refl }
+    first zero l = record { answer = Begun; woken = None; is = refl }
     first (suc i) l = absurd (omega (arith, l))
 
 pub none_run_refuted : RunIsLongest none_run → ⊥

@@ -9,20 +9,10 @@ use schedule::whole::replay_file;
 
 const TIMES: u64 = 100;
 
-fn sum(a: u64, b: u64) -> u64 {
-    if b <= u64::MAX - a {
-        return a + b;
-    }
-    u64::MAX
-}
-
 fn over(s: &[u8]) -> u64 {
     let mut run: u64 = 0;
-    let mut left = TIMES;
-    while left > 0 {
-        let done = replay_file(s);
-        run = sum(run, done.run as u64);
-        left = left - 1;
+    for _ in 0..TIMES {
+        run = run.saturating_add(replay_file(s).run as u64);
     }
     run
 }
@@ -34,8 +24,7 @@ fn tell(rt: &(impl Print + Eprint + AllocGlobal), events: u64) {
 fn main(rt: HostRuntime) {
     let mut file = [0u8; ENOUGH];
     let got = receive(&rt, &mut file);
-    let reading = got.reading;
-    match reading {
+    match got.reading {
         Reading::Unreadable => (),
         Reading::Full => tell(&rt, 0),
         Reading::Whole => tell(&rt, over(&file[..got.length])),

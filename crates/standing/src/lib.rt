@@ -6,7 +6,7 @@
 //     rouses::rouses(m, t)    is thread t one whose steps have to come before the queue's waiters are woken?
 #![tactic(auto)]
 
-mod look;
+pub mod look;
 pub mod part;
 pub mod rouses;
 pub mod stands;

@@ -43,12 +43,11 @@ fn walking(walk: Walk, seen: Word) -> Part
     ensures { result ≡ walking_of walk seen }
 {
     match walk {
-        Walk::Queue { who } => Part::Owning { who: who },
+        Walk::Queue { who } => Part::Owning { who },
         Walk::ReadUnlock => Part::Apart,
-        Walk::Downgrade => {
-            let head = seen.to_node();
-            Part::Walking { head: head }
-        }
+        Walk::Downgrade => Part::Walking {
+            head: seen.to_node(),
+        },
     }
 }
 
@@ -56,106 +55,39 @@ pub fn part_at(place: Place) -> Part
     ensures { result ≡ part_of place }
 {
     match place {
-        Place::ContendLoad {
-            writer: _,
-            reloads: _,
-        } => Part::Contending,
-        Place::ContendCas {
-            writer: _,
-            reloads: _,
-            seen: _,
-        } => Part::Contending,
-        Place::RegisterCas {
-            writer: _,
-            reloads: _,
-            seen: _,
-        } => Part::Contending,
-        Place::CompletedLoad { writer: _ } => Part::Waiting,
-        Place::Park { writer: _ } => Part::Waiting,
-        Place::WalkTail {
-            walk,
-            seen,
-            current: _,
-        } => walking(walk, seen),
-        Place::WalkNext {
-            walk,
-            seen,
-            current: _,
-        } => walking(walk, seen),
-        Place::WalkPrev {
-            walk,
-            seen,
-            current: _,
-            next: _,
-        } => walking(walk, seen),
-        Place::WalkHead {
-            walk,
-            seen,
-            tail: _,
-        } => walking(walk, seen),
-        Place::QueueCas { who, seen: _ } => Part::Owning { who: who },
-        Place::SplitPrev {
-            who,
-            seen: _,
-            tail: _,
-        } => Part::Owning { who: who },
-        Place::SplitStore {
-            who,
-            seen: _,
-            tail: _,
-            prev: _,
-        } => Part::Owning { who: who },
-        Place::SplitCas { who, seen: _, tail } => Part::SettingAside {
-            who: who,
-            tail: tail,
-        },
-        Place::SplitRestore {
-            who,
-            seen: _,
-            tail,
-            reported: _,
-        } => Part::SettingAside {
-            who: who,
-            tail: tail,
-        },
-        Place::TakeCas {
-            who,
-            seen: _,
-            tail: _,
-        } => Part::Owning { who: who },
-        Place::WakePrev { who, current } => Part::Reading {
-            who: who,
-            current: current,
-        },
-        Place::WakeStore { who, current, prev } => Part::Completing {
-            who: who,
-            current: current,
-            prev: prev,
-        },
-        Place::ReleaseCas { seen: _ } => Part::Releasing,
-        Place::Idle => Part::Apart,
-        Place::TryReadLoad { blocking: _ } => Part::Apart,
-        Place::TryReadCas {
-            blocking: _,
-            seen: _,
-        } => Part::Apart,
-        Place::TryWriteOr { blocking: _ } => Part::Apart,
-        Place::ReadUnlockLoad => Part::Apart,
-        Place::ReadUnlockCas { seen: _ } => Part::Apart,
-        Place::Subtract { seen: _, tail: _ } => Part::Apart,
-        Place::WriteUnlockCas => Part::Apart,
-        Place::DowngradeCas => Part::Apart,
-        Place::DowngradeSlowCas { seen: _ } => Part::Apart,
+        Place::ContendLoad { .. } | Place::ContendCas { .. } | Place::RegisterCas { .. } =>
+            Part::Contending,
+        Place::CompletedLoad { .. } | Place::Park { .. } => Part::Waiting,
+        Place::WalkTail { walk, seen, .. }
+        | Place::WalkNext { walk, seen, .. }
+        | Place::WalkPrev { walk, seen, .. }
+        | Place::WalkHead { walk, seen, .. } => walking(walk, seen),
+        Place::QueueCas { who, .. }
+        | Place::SplitPrev { who, .. }
+        | Place::SplitStore { who, .. }
+        | Place::TakeCas { who, .. } => Part::Owning { who },
+        Place::SplitCas { who, tail, .. } | Place::SplitRestore { who, tail, .. } =>
+            Part::SettingAside { who, tail },
+        Place::WakePrev { who, current } => Part::Reading { who, current },
+        Place::WakeStore { who, current, prev } => Part::Completing { who, current, prev },
+        Place::ReleaseCas { .. } => Part::Releasing,
+        Place::Idle
+        | Place::TryReadLoad { .. }
+        | Place::TryReadCas { .. }
+        | Place::TryWriteOr { .. }
+        | Place::ReadUnlockLoad
+        | Place::ReadUnlockCas { .. }
+        | Place::Subtract { .. }
+        | Place::WriteUnlockCas
+        | Place::DowngradeCas
+        | Place::DowngradeSlowCas { .. } => Part::Apart,
     }
 }
 
 fn waiter(who: Who) -> bool
     ensures { result ≡ waiter_of who }
 {
-    match who {
-        Who::Waiter { writer: _ } => true,
-        Who::Leaver => false,
-    }
+    matches!(who, Who::Waiter { .. })
 }
 
 // Is its own node registered? It is completed or not.
@@ -164,17 +96,10 @@ pub fn registered(part: Part) -> bool
 {
     match part {
         Part::Waiting => true,
-        Part::Owning { who } => waiter(who),
-        Part::SettingAside { who, tail: _ } => waiter(who),
-        Part::Reading { who, current: _ } => waiter(who),
-        Part::Completing {
-            who,
-            current: _,
-            prev: _,
-        } => waiter(who),
-        Part::Apart => false,
-        Part::Contending => false,
-        Part::Walking { head: _ } => false,
-        Part::Releasing => false,
+        Part::Owning { who }
+        | Part::SettingAside { who, .. }
+        | Part::Reading { who, .. }
+        | Part::Completing { who, .. } => waiter(who),
+        _ => false,
     }
 }

@@ -4,3 +4,4 @@ pub mod Access
 pub mod Answer
 pub mod Machine
 pub mod View
+pub mod Replies

@@ -1,6 +1,6 @@
 -- The machine and its limit; a fresh one; one handed back with a refusal.
 -- Assumes nothing.
-use Rattle.std.specs.Prelude.{ℕ, Bool, false, ◌≡◌, ltb, leb, length, replicate, get_or}
+use Rattle.std.specs.Prelude.{ℕ, Bool, false, ◌≡◌, ltb, leb, length, replicate, get_or, Err, Ok}
 use Rattle.word.specs.Base.{pick}
 use Rattle.word.specs.Flags.{word}
 use Rattle.state.specs.Node.{blank_node}
@@ -9,8 +9,6 @@ use Rattle.state.specs.declared.holding.Holding.TheVariants.{Nothing}
 use Rattle.state.specs.declared.place.Place.TheVariants.{Idle}
 use Rattle.state.specs.declared.answer.Refusal.{Refusal}
 use Rattle.state.specs.declared.answer.Refusal.TheVariants.{Damaged}
-use Rattle.state.specs.declared.answer.Reply.TheVariants.{Refused}
-use Rattle.state.specs.declared.answer.Verdict.TheVariants.{Fine, Refused as Denied}
 use Rattle.state.specs.declared.machine.Thread.{Thread}
 use Rattle.state.specs.declared.machine.Machine.{Machine}
 use Rattle.state.specs.declared.machine.Fresh.{Fresh}
@@ -52,9 +50,9 @@ made_of count =
 abbrev pub fresh_of : ℕ → Fresh
 fresh_of count =
     pick (good_count count)
-    (record { machine = made_of count; verdict = Fine })
-    (record { machine = made_of 1; verdict = Denied Damaged })
+    (record { machine = made_of count; verdict = Ok tt })
+    (record { machine = made_of 1; verdict = Err Damaged })
 
 -- a refusal leaves the machine unchanged
 abbrev pub refused_of : Machine → Refusal → Outcome
-refused_of m r = record { machine = m; reply = Refused r }
+refused_of m r = record { machine = m; reply = Err r }

@@ -5,7 +5,7 @@ ghost use Rattle.state.specs.Access.{access_of, touched_of, at_word_of, load_of,
 use crate::place::Place;
 use word::{NodeNumber, ThreadNumber};
 
-#[derive(Clone, Copy)]
+#[derive(Clone, Copy, PartialEq, Eq)]
 pub enum Kind {
     Nothing,
     Load,
@@ -39,7 +39,7 @@ fn at_word(kind: Kind) -> Access
     ensures { result ≡ at_word_of kind }
 {
     Access {
-        kind: kind,
+        kind,
         location: Location::Word,
     }
 }
@@ -49,7 +49,7 @@ fn load(location: Location) -> Access
 {
     Access {
         kind: Kind::Load,
-        location: location,
+        location,
     }
 }
 
@@ -58,7 +58,7 @@ fn store(location: Location) -> Access
 {
     Access {
         kind: Kind::Store,
-        location: location,
+        location,
     }
 }
 
@@ -73,99 +73,42 @@ impl Access {
                 kind: Kind::Nothing,
                 location: Location::Nowhere,
             },
-            Place::TryReadLoad { blocking: _ } => at_word(Kind::Load),
-            Place::TryReadCas {
-                blocking: _,
-                seen: _,
-            } => at_word(Kind::WeakCompare),
-            Place::TryWriteOr { blocking: _ } => at_word(Kind::FetchOr),
-            Place::ContendLoad {
-                writer: _,
-                reloads: _,
-            } => at_word(Kind::Load),
-            Place::ContendCas {
-                writer: _,
-                reloads: _,
-                seen: _,
-            } => at_word(Kind::WeakCompare),
-            Place::RegisterCas {
-                writer: _,
-                reloads: _,
-                seen: _,
-            } => at_word(Kind::WeakCompare),
-            Place::CompletedLoad { writer: _ } => load(Location::Completed(me.node())),
-            Place::Park { writer: _ } => Access {
+            Place::TryReadLoad { .. } => at_word(Kind::Load),
+            Place::TryReadCas { .. } => at_word(Kind::WeakCompare),
+            Place::TryWriteOr { .. } => at_word(Kind::FetchOr),
+            Place::ContendLoad { .. } => at_word(Kind::Load),
+            Place::ContendCas { .. } => at_word(Kind::WeakCompare),
+            Place::RegisterCas { .. } => at_word(Kind::WeakCompare),
+            Place::CompletedLoad { .. } => load(Location::Completed(me.node())),
+            Place::Park { .. } => Access {
                 kind: Kind::Park,
                 location: Location::Token(me),
             },
-            Place::WalkTail {
-                walk: _,
-                seen: _,
-                current,
-            } => load(Location::Tail(current)),
-            Place::WalkNext {
-                walk: _,
-                seen: _,
-                current,
-            } => load(Location::Next(current)),
-            Place::WalkPrev {
-                walk: _,
-                seen: _,
-                current: _,
-                next,
-            } => store(Location::Prev(next)),
-            Place::WalkHead {
-                walk: _,
-                seen,
-                tail: _,
-            } => store(Location::Tail(seen.to_node())),
-            Place::QueueCas { who: _, seen: _ } => at_word(Kind::WeakCompare),
-            Place::SplitPrev {
-                who: _,
-                seen: _,
-                tail,
-            } => load(Location::Prev(tail)),
-            Place::SplitStore {
-                who: _,
-                seen,
-                tail: _,
-                prev: _,
-            } => store(Location::Tail(seen.to_node())),
-            Place::SplitCas {
-                who: _,
-                seen: _,
-                tail: _,
-            } => at_word(Kind::WeakCompare),
-            Place::SplitRestore {
-                who: _,
-                seen,
-                tail: _,
-                reported: _,
-            } => store(Location::Tail(seen.to_node())),
-            Place::TakeCas {
-                who: _,
-                seen: _,
-                tail: _,
-            } => at_word(Kind::WeakCompare),
-            Place::WakePrev { who: _, current } => load(Location::Prev(current)),
-            Place::WakeStore {
-                who: _,
-                current,
-                prev: _,
-            } => Access {
+            Place::WalkTail { current, .. } => load(Location::Tail(current)),
+            Place::WalkNext { current, .. } => load(Location::Next(current)),
+            Place::WalkPrev { next, .. } => store(Location::Prev(next)),
+            Place::WalkHead { seen, .. } => store(Location::Tail(seen.to_node())),
+            Place::QueueCas { .. } => at_word(Kind::WeakCompare),
+            Place::SplitPrev { tail, .. } => load(Location::Prev(tail)),
+            Place::SplitStore { seen, .. } => store(Location::Tail(seen.to_node())),
+            Place::SplitCas { .. } => at_word(Kind::WeakCompare),
+            Place::SplitRestore { seen, .. } => store(Location::Tail(seen.to_node())),
+            Place::TakeCas { .. } => at_word(Kind::WeakCompare),
+            Place::WakePrev { current, .. } => load(Location::Prev(current)),
+            Place::WakeStore { current, .. } => Access {
                 kind: Kind::Complete,
                 location: Location::Completed(current),
             },
             Place::ReadUnlockLoad => at_word(Kind::Load),
-            Place::ReadUnlockCas { seen: _ } => at_word(Kind::WeakCompare),
-            Place::Subtract { seen: _, tail } => Access {
+            Place::ReadUnlockCas { .. } => at_word(Kind::WeakCompare),
+            Place::Subtract { tail, .. } => Access {
                 kind: Kind::Subtract,
                 location: Location::Next(tail),
             },
             Place::WriteUnlockCas => at_word(Kind::StrongCompare),
-            Place::ReleaseCas { seen: _ } => at_word(Kind::WeakCompare),
+            Place::ReleaseCas { .. } => at_word(Kind::WeakCompare),
             Place::DowngradeCas => at_word(Kind::StrongCompare),
-            Place::DowngradeSlowCas { seen: _ } => at_word(Kind::WeakCompare),
+            Place::DowngradeSlowCas { .. } => at_word(Kind::WeakCompare),
         }
     }
 
@@ -173,15 +116,9 @@ impl Access {
     pub fn touched(self, me: ThreadNumber) -> NodeNumber
         ensures { result ≡ touched_of self me }
     {
-        let location = self.location;
-        match location {
-            Location::Next(n) => n,
-            Location::Prev(n) => n,
-            Location::Tail(n) => n,
-            Location::Completed(n) => n,
-            Location::Nowhere => me.node(),
-            Location::Word => me.node(),
-            Location::Token(_) => me.node(),
+        match self.location {
+            Location::Next(n) | Location::Prev(n) | Location::Tail(n) | Location::Completed(n) => n,
+            Location::Nowhere | Location::Word | Location::Token(_) => me.node(),
         }
     }
 }

@@ -1,8 +1,8 @@
 // What an event answers, and why it is refused, by document 01's words and numbers.
 ghost use Rattle.std.specs.Prelude.{◌≡◌};
-ghost use Rattle.state.specs.Answer.{refusal_number, answer_text};
+ghost use Rattle.state.specs.Answer.{refusal_number, answer_word};
 
-use word::Owner;
+use word::ThreadNumber;
 
 #[derive(Clone, Copy)]
 pub enum Answer {
@@ -15,78 +15,44 @@ pub enum Answer {
 
 #[derive(Clone, Copy)]
 pub enum Refusal {
-    UnknownCode,
-    NoThread,
-    InsideCall,
-    WrongHolding,
-    NotInCall,
-    NoToken,
-    CannotFail,
-    Damaged,
+    UnknownCode = 1,
+    NoThread = 2,
+    InsideCall = 3,
+    WrongHolding = 4,
+    NotInCall = 5,
+    NoToken = 6,
+    CannotFail = 7,
+    Damaged = 8,
 }
 
-// An accepted event's answer with the thread it woke, or the refusal.
+// An accepted event's answer, with the thread it woke.
 #[derive(Clone, Copy)]
-pub enum Reply {
-    Accepted { answer: Answer, woken: Owner },
-    Refused(Refusal),
+pub struct Accepted {
+    pub answer: Answer,
+    pub woken: Option<ThreadNumber>,
 }
 
-#[derive(Clone, Copy)]
-pub enum Verdict {
-    Fine,
-    Refused(Refusal),
-}
-
-// An answer's word in ASCII, and how many of the bytes it has; the others are 0.
-#[derive(Clone, Copy)]
-pub struct Text {
-    pub bytes: [u8; 5],
-    pub length: usize,
-}
+pub type Reply = Result<Accepted, Refusal>;
 
 impl Refusal {
     pub fn number(self) -> u8
         ensures { result ≡ refusal_number self }
     {
-        match self {
-            Refusal::UnknownCode => 1,
-            Refusal::NoThread => 2,
-            Refusal::InsideCall => 3,
-            Refusal::WrongHolding => 4,
-            Refusal::NotInCall => 5,
-            Refusal::NoToken => 6,
-            Refusal::CannotFail => 7,
-            Refusal::Damaged => 8,
-        }
+        self as u8
     }
 }
 
 impl Answer {
-    pub fn text(self) -> Text
-        ensures { result ≡ answer_text self }
+    // Its word, in ASCII.
+    pub fn text(self) -> &'static str
+        ensures { result.now ≡ answer_word self }
     {
         match self {
-            Answer::Begun => Text {
-                bytes: [98, 101, 103, 117, 110],
-                length: 5,
-            },
-            Answer::Went => Text {
-                bytes: [119, 101, 110, 116, 0],
-                length: 4,
-            },
-            Answer::Done => Text {
-                bytes: [100, 111, 110, 101, 0],
-                length: 4,
-            },
-            Answer::Yes => Text {
-                bytes: [121, 101, 115, 0, 0],
-                length: 3,
-            },
-            Answer::No => Text {
-                bytes: [110, 111, 0, 0, 0],
-                length: 2,
-            },
+            Answer::Begun => "begun",
+            Answer::Went => "went",
+            Answer::Done => "done",
+            Answer::Yes => "yes",
+            Answer::No => "no",
         }
     }
 }

@@ -3,7 +3,7 @@ ghost use Rattle.std.specs.Prelude.{◌≡◌};
 ghost use Rattle.state.specs.Holding.{reads_of, writes_of, granted_read, granted_write};
 ghost use Rattle.state.specs.Holding.{released_read, released_write, downgraded_to};
 
-#[derive(Clone, Copy)]
+#[derive(Clone, Copy, PartialEq, Eq)]
 pub enum Holding {
     Nothing,
     Read,
@@ -15,9 +15,8 @@ impl Holding {
         ensures { result ≡ reads_of self }
     {
         match self {
-            Holding::Nothing => 0,
             Holding::Read => 1,
-            Holding::Write => 0,
+            Holding::Nothing | Holding::Write => 0,
         }
     }
 
@@ -25,9 +24,8 @@ impl Holding {
         ensures { result ≡ writes_of self }
     {
         match self {
-            Holding::Nothing => 0,
-            Holding::Read => 0,
             Holding::Write => 1,
+            Holding::Nothing | Holding::Read => 0,
         }
     }
 

@@ -2,7 +2,7 @@
 ghost use Rattle.std.specs.Prelude.{◌≡◌, ◌≤◌};
 ghost use Rattle.state.specs.Machine.{good_count, blank_thread, made_of, fresh_of, refused_of};
 
-use crate::answer::{Refusal, Reply, Verdict};
+use crate::answer::{Refusal, Reply};
 use crate::holding::Holding;
 use crate::node::Node;
 use crate::place::Place;
@@ -30,7 +30,7 @@ pub struct Machine {
 #[derive(Clone, Copy)]
 pub struct Fresh {
     pub machine: Machine,
-    pub verdict: Verdict,
+    pub verdict: Result<(), Refusal>,
 }
 
 // The machine after an event, and the reply.
@@ -56,22 +56,17 @@ impl Thread {
 pub fn good_count(count: u8) -> bool
     ensures { result ≡ good_count count }
 {
-    if count < 1 {
-        return false;
-    }
-    count as usize <= THREADS
+    1 <= count && count as usize <= THREADS
 }
 
 fn made(count: u8) -> Machine
     ensures { result ≡ made_of count }
 {
-    let n = Node::blank();
-    let t = Thread::blank();
     Machine {
-        count: count,
-        word: Word(0),
-        nodes: [n; THREADS],
-        threads: [t; THREADS],
+        count,
+        word: Word::FREE,
+        nodes: [Node::blank(); THREADS],
+        threads: [Thread::blank(); THREADS],
     }
 }
 
@@ -81,14 +76,15 @@ impl Machine {
         ensures { result ≡ fresh_of count }
     {
         if good_count(count) {
-            return Fresh {
+            Fresh {
                 machine: made(count),
-                verdict: Verdict::Fine,
-            };
-        }
-        Fresh {
-            machine: made(1),
-            verdict: Verdict::Refused(Refusal::Damaged),
+                verdict: Ok(()),
+            }
+        } else {
+            Fresh {
+                machine: made(1),
+                verdict: Err(Refusal::Damaged),
+            }
         }
     }
 
@@ -98,7 +94,7 @@ impl Machine {
     {
         Outcome {
             machine: self,
-            reply: Reply::Refused(refusal),
+            reply: Err(refusal),
         }
     }
 }

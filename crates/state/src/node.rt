@@ -20,8 +20,8 @@ impl Node {
     {
         Node {
             next: Word(0),
-            prev: NodeNumber(0),
-            tail: NodeNumber(0),
+            prev: NodeNumber::NONE,
+            tail: NodeNumber::NONE,
             writer: false,
             completed: false,
         }
@@ -31,51 +31,42 @@ impl Node {
     pub fn filled(me: ThreadNumber, writer: bool, seen: Word) -> Node
         ensures { result ≡ filled_of me writer seen }
     {
-        let next = seen.without_flags();
-        let own = me.node();
-        if seen.queued() {
-            return Node {
-                next: next,
-                prev: NodeNumber(0),
-                tail: NodeNumber(0),
-                writer: writer,
-                completed: false,
-            };
-        }
         Node {
-            next: next,
-            prev: NodeNumber(0),
-            tail: own,
-            writer: writer,
-            completed: false,
+            next: seen.without_flags(),
+            tail: if seen.queued() {
+                NodeNumber::NONE
+            } else {
+                me.node()
+            },
+            writer,
+            ..Node::blank()
         }
     }
 
-    pub fn with_next(mut self, next: Word) -> Node
+    pub fn with_next(self, next: Word) -> Node
         ensures { result ≡ with_next self next }
     {
-        self.next = next;
-        self
+        Node { next, ..self }
     }
 
-    pub fn with_prev(mut self, prev: NodeNumber) -> Node
+    pub fn with_prev(self, prev: NodeNumber) -> Node
         ensures { result ≡ with_prev self prev }
     {
-        self.prev = prev;
-        self
+        Node { prev, ..self }
     }
 
-    pub fn with_tail(mut self, tail: NodeNumber) -> Node
+    pub fn with_tail(self, tail: NodeNumber) -> Node
         ensures { result ≡ with_tail self tail }
     {
-        self.tail = tail;
-        self
+        Node { tail, ..self }
     }
 
-    pub fn with_completed(mut self) -> Node
+    pub fn with_completed(self) -> Node
         ensures { result ≡ with_completed self }
     {
-        self.completed = true;
-        self
+        Node {
+            completed: true,
+            ..self
+        }
     }
 }

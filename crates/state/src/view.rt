@@ -8,7 +8,7 @@ use crate::holding::Holding;
 use crate::machine::Thread;
 use crate::node::Node;
 use crate::place::{Place, Walk, Who};
-use word::{Owner, ThreadNumber, Word};
+use word::{ThreadNumber, Word};
 
 // The writer mark of the tail that a walk found, where that tail is a node of the machine.
 #[derive(Clone, Copy)]
@@ -38,14 +38,10 @@ pub struct Change {
     pub node: Node,
     pub thread: Thread,
     pub answer: Answer,
-    pub woken: Owner,
+    pub woken: Option<ThreadNumber>,
 }
 
-#[derive(Clone, Copy)]
-pub enum Stepped {
-    To(Change),
-    Refused(Refusal),
-}
+pub type Stepped = Result<Change, Refusal>;
 
 // Where the thread stands after a step, and what is answered.
 #[derive(Clone, Copy)]
@@ -59,7 +55,7 @@ impl Next {
         ensures { result ≡ at place }
     {
         Next {
-            place: place,
+            place,
             answer: Answer::Went,
         }
     }
@@ -70,7 +66,7 @@ impl Next {
     {
         Next {
             place: Place::Idle,
-            answer: answer,
+            answer,
         }
     }
 
@@ -78,10 +74,7 @@ impl Next {
     pub fn granted(blocking: bool) -> Next
         ensures { result ≡ granted blocking }
     {
-        if blocking {
-            return Next::end(Answer::Done);
-        }
-        Next::end(Answer::Yes)
+        Next::end(if blocking { Answer::Done } else { Answer::Yes })
     }
 
     // unlock_queue or complete_all returns: a waiter goes on to wait, another call ends.
@@ -89,7 +82,7 @@ impl Next {
         ensures { result ≡ after_queue who }
     {
         match who {
-            Who::Waiter { writer } => Next::at(Place::CompletedLoad { writer: writer }),
+            Who::Waiter { writer } => Next::at(Place::CompletedLoad { writer }),
             Who::Leaver => Next::end(Answer::Done),
         }
     }
@@ -98,11 +91,10 @@ impl Next {
     pub fn walk_from(walk: Walk, seen: Word) -> Next
         ensures { result ≡ walk_from walk seen }
     {
-        let head = seen.to_node();
         Next::at(Place::WalkTail {
-            walk: walk,
-            seen: seen,
-            current: head,
+            walk,
+            seen,
+            current: seen.to_node(),
         })
     }
 }
@@ -112,23 +104,21 @@ fn changed(
     node: Node,
     token: bool,
     holding: Holding,
-    woken: Owner,
+    woken: Option<ThreadNumber>,
     next: Next,
 ) -> Stepped
     ensures { result ≡ changed_of word node token holding woken next }
 {
-    let place = next.place;
-    let answer = next.answer;
-    Stepped::To(Change {
-        word: word,
-        node: node,
+    Ok(Change {
+        word,
+        node,
         thread: Thread {
-            place: place,
-            token: token,
-            holding: holding,
+            place: next.place,
+            token,
+            holding,
         },
-        answer: answer,
-        woken: woken,
+        answer: next.answer,
+        woken,
     })
 }
 
@@ -137,55 +127,48 @@ impl View {
     pub fn agrees(self, seen: Word) -> bool
         ensures { result ≡ agrees_of self seen }
     {
-        if self.fails {
-            return false;
-        }
-        self.word.0 == seen.0
+        !self.fails && self.word == seen
     }
 
     // Nothing shared changes.
     pub fn stays(self, next: Next) -> Stepped
         ensures { result ≡ stays self next }
     {
-        let h = self.holding;
-        changed(self.word, self.node, self.token, h, Owner::Nobody, next)
+        changed(self.word, self.node, self.token, self.holding, None, next)
     }
 
     // The word is written, and with it the thread's holding.
     pub fn writes(self, word: Word, holding: Holding, next: Next) -> Stepped
         ensures { result ≡ writes self word holding next }
     {
-        changed(word, self.node, self.token, holding, Owner::Nobody, next)
+        changed(word, self.node, self.token, holding, None, next)
     }
 
     // The node is stored to, or the thread's own is filled.
     pub fn links(self, node: Node, next: Next) -> Stepped
         ensures { result ≡ links self node next }
     {
-        let h = self.holding;
-        changed(self.word, node, self.token, h, Owner::Nobody, next)
+        changed(self.word, node, self.token, self.holding, None, next)
     }
 
     // A contended reader takes itself off the count in the node, and releases.
     pub fn subtracts(self, node: Node, holding: Holding, next: Next) -> Stepped
         ensures { result ≡ subtracts self node holding next }
     {
-        changed(self.word, node, self.token, holding, Owner::Nobody, next)
+        changed(self.word, node, self.token, holding, None, next)
     }
 
     // The node is completed, and its owner woken.
-    pub fn completes(self, node: Node, woken: Owner, next: Next) -> Stepped
+    pub fn completes(self, node: Node, woken: Option<ThreadNumber>, next: Next) -> Stepped
         ensures { result ≡ completes self node woken next }
     {
-        let h = self.holding;
-        changed(self.word, node, self.token, h, woken, next)
+        changed(self.word, node, self.token, self.holding, woken, next)
     }
 
     // park returns, with the token as it then is.
     pub fn parks(self, token: bool, next: Next) -> Stepped
         ensures { result ≡ parks self token next }
     {
-        let h = self.holding;
-        changed(self.word, self.node, token, h, Owner::Nobody, next)
+        changed(self.word, self.node, token, self.holding, None, next)
     }
 }

@@ -8,6 +8,5 @@ use console::runs::trace_received;
 fn main(rt: HostRuntime) {
     let mut file = [0u8; ENOUGH];
     let got = receive(&rt, &mut file);
-    let reading = got.reading;
-    trace_received(&rt, reading, &file[..got.length]);
+    trace_received(&rt, got.reading, &file[..got.length]);
 }

@@ -1,28 +1,21 @@
 -- The trace's lines as text (docs/TRACE.md): an event's line, the waiters newest first, the reader count and where it
 -- sits.
 -- Assumes nothing.
-use Rattle.std.specs.Prelude.{ℕ, zero, suc, List, [], ◌++◌, eqb, get_or}
+use Rattle.std.specs.Prelude.{ℕ, zero, suc, List, [], ◌++◌, eqb, get_or, Err, Ok, Option, Some, None, length, Result}
 use Rattle.word.specs.Base.{pick}
 use Rattle.word.specs.Number.{none, is_none}
 use Rattle.word.specs.declared.number.ThreadNumber.{ThreadNumber}
 use Rattle.word.specs.declared.number.NodeNumber.{NodeNumber}
-use Rattle.state.specs.Answer.{refusal_number}
-use Rattle.state.specs.Machine.{thread_limit}
+use Rattle.state.specs.Answer.{refusal_number, Reply}
 use Rattle.state.specs.declared.answer.Refusal.{Refusal}
-use Rattle.state.specs.declared.answer.Reply.{Reply}
-use Rattle.state.specs.declared.answer.Reply.TheVariants.{Accepted, Refused}
-use Rattle.state.specs.declared.answer.Verdict.{Verdict}
-use Rattle.state.specs.declared.answer.Verdict.TheVariants.{Fine, Refused as Not}
 use Rattle.state.specs.declared.machine.Machine.{Machine}
-use Rattle.listing.specs.Listing.{waiters_of}
+use Rattle.listing.specs.Listing.{waiters_of, Waiters}
 use Rattle.listing.specs.ReaderCount.{readers_of}
-use Rattle.listing.specs.declared.listing.Waiters.{Waiters}
 use Rattle.listing.specs.declared.reader_count.Sits.{Sits}
 use Rattle.listing.specs.declared.reader_count.Sits.TheVariants.{Nowhere, Word as InWord, Downgrade, Node as InNode}
 use Rattle.listing.specs.declared.reader_count.Readers.{Readers}
 use Rattle.schedule.specs.declared.cursor.Moved.{Moved}
 use Rattle.schedule.specs.declared.cursor.Seen.{Seen}
-use Rattle.schedule.specs.declared.cursor.Seen.TheVariants.{Ended, Event}
 use Rattle.print.specs.Text.{ascii, decimal}
 use Rattle.print.specs.Replayed.{event_text, end_text, refused_text}
 
@@ -31,7 +24,7 @@ use Rattle.print.specs.Replayed.{event_text, end_text, refused_text}
 abbrev pub node_text : NodeNumber → List ℕ
 node_text n = pick (is_none n) [] (ascii " " ++ decimal n.0)
 
--- the first k of an array of nodes; past the waiters' length it has none
+-- the first k of a list of nodes
 unfoldable pub nodes_text : ℕ → List NodeNumber → List ℕ
 nodes_text zero ns = []
 nodes_text (suc k) ns = nodes_text k ns ++ node_text (get_or ns k none)
@@ -40,14 +33,14 @@ abbrev pub refusal_text : Refusal → List ℕ
 refusal_text refusal = ascii " refused " ++ decimal (refusal_number refusal)
 
 abbrev pub listed_text : Waiters → List ℕ
-listed_text w = pick (eqb w.length 0) (ascii " -") (nodes_text thread_limit w.nodes)
+listed_text w = pick (eqb (length w.items) 0) (ascii " -") (nodes_text (length w.items) w.items)
 
-abbrev pub waiters_by : Verdict → Waiters → List ℕ
-waiters_by (Not refusal) w = refusal_text refusal
-waiters_by Fine w = listed_text w
+abbrev pub waiters_by : Result Waiters Refusal → List ℕ
+waiters_by (Err refusal) = refusal_text refusal
+waiters_by (Ok w) = listed_text w
 
-abbrev pub waiters_text : Waiters → List ℕ
-waiters_text w = ascii " | waiters" ++ waiters_by w.verdict w
+abbrev pub waiters_text : Result Waiters Refusal → List ℕ
+waiters_text waiters = ascii " | waiters" ++ waiters_by waiters
 
 -- ── the readers ──
 
@@ -65,12 +58,12 @@ abbrev pub counted_text : Readers → List ℕ
 counted_text r =
     pick (eqb r.readers 0) (ascii " -") (ascii " " ++ decimal r.readers ++ sits_text r.sits ++ raw_text r)
 
-abbrev pub readers_by : Verdict → Readers → List ℕ
-readers_by (Not refusal) r = refusal_text refusal
-readers_by Fine r = counted_text r
+abbrev pub readers_by : Result Readers Refusal → List ℕ
+readers_by (Err refusal) = refusal_text refusal
+readers_by (Ok r) = counted_text r
 
-abbrev pub readers_text : Readers → List ℕ
-readers_text r = ascii " | readers" ++ readers_by r.verdict r
+abbrev pub readers_text : Result Readers Refusal → List ℕ
+readers_text readers = ascii " | readers" ++ readers_by readers
 
 -- ── the line ──
 
@@ -78,12 +71,12 @@ abbrev pub state_text : Machine → List ℕ
 state_text m = waiters_text (waiters_of m) ++ readers_text (readers_of m)
 
 abbrev pub replied_text : ℕ → ThreadNumber → Reply → Machine → List ℕ
-replied_text at thread (Accepted answer woken) m = event_text at thread answer woken m.word ++ state_text m
-replied_text at thread (Refused refusal) m = refused_text (refusal_number refusal)
+replied_text at thread (Ok told) m = event_text at thread told.answer told.woken m.word ++ state_text m
+replied_text at thread (Err refusal) m = refused_text (refusal_number refusal)
 
-abbrev pub seen_text : ℕ → Seen → Machine → List ℕ
-seen_text at Ended m = end_text at
-seen_text at (Event code thread reply) m = replied_text at thread reply m
+abbrev pub seen_text : ℕ → Option Seen → Machine → List ℕ
+seen_text at None m = end_text at
+seen_text at (Some seen) m = replied_text at seen.thread seen.reply m
 
 -- the line of one step of a cursor that stood at event `at`
 abbrev pub traced_text : ℕ → Moved → List ℕ

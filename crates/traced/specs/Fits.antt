@@ -4,13 +4,11 @@
 -- Not here: that document 01's part of a line fits (crate print, Shown.antt).
 -- Assumes nothing.
 use Prim.Native.Nat.{ℕ, zero, suc, ◌+◌, ◌*◌, ◌<◌, ◌≤◌}
-use Rattle.std.specs.Prelude.{Bool, true, List, [], ◌++◌, ◌≡◌, refl, length, get_or}
+use Rattle.std.specs.Prelude.{Bool, true, List, [], ◌++◌, ◌≡◌, refl, length, get_or, Err, Ok, Option, Result}
 use Rattle.std.proofs.Math.Bool.{false}
 use Rattle.std.proofs.lemmas.Bool.{false≢true}
-use Rattle.std.proofs.Common.{sym, ap, ◌∙◌}
-use Rattle.std.proofs.Math.Decide.{dec_lt}
+use Rattle.std.proofs.Common.{sym, ◌∙◌}
 use native.Mathlib.Omega.{arith}
-use borrow.Author.Tests.{ne_eqb}
 use Rattle.std.proofs.Math.Dec.{eqb}
 use Rattle.std.proofs.Math.ListN.{length-append}
 use Rattle.word.specs.Base.{pick}
@@ -18,26 +16,21 @@ use Rattle.word.specs.Cases.{pick_both}
 use Rattle.word.specs.Number.{none, is_none, thread, node_of}
 use Rattle.word.specs.declared.number.ThreadNumber.{ThreadNumber}
 use Rattle.word.specs.declared.number.NodeNumber.{NodeNumber}
-use Rattle.word.specs.declared.number.Owner.{Owner}
 use Rattle.state.specs.Answer.{refusal_number}
 use Rattle.state.specs.Machine.{thread_limit, good_count}
 use Rattle.state.specs.declared.answer.Answer.{Answer}
 use Rattle.state.specs.declared.answer.Refusal.{Refusal}
 use Rattle.state.specs.declared.answer.Refusal.TheVariants.{Damaged}
-use Rattle.state.specs.declared.answer.Verdict.{Verdict}
-use Rattle.state.specs.declared.answer.Verdict.TheVariants.{Fine, Refused}
 use Rattle.state.specs.declared.holding.Holding.{Holding}
 use Rattle.state.specs.declared.holding.Holding.TheVariants as Holds
 use Rattle.state.specs.declared.machine.Machine.{Machine}
 use Rattle.state.specs.declared.machine.Thread.{Thread}
-use Rattle.state.specs.declared.place.Place.{Place}
-use Rattle.state.specs.declared.place.Place.TheVariants as At
-use Rattle.listing.specs.Listing.{waiters_of}
-use Rattle.listing.specs.Laws.{in_range, waiters_bad_count, waiters_within, waiters_others}
+use Rattle.listing.specs.Listing.{waiters_of, Waiters}
+use Rattle.listing.specs.Laws.{in_range, waiters_bad_count, waiters_within, few_threads, waiters_most}
 use Rattle.listing.specs.ReaderCount.{readers_of}
 use Rattle.listing.specs.declared.reader_count.Readers.{Readers}
 use Rattle.listing.specs.declared.reader_count.Sits.{Sits}
-use Rattle.standing.specs.Look.{completed_of, among_below}
+use Rattle.standing.specs.Look.{completed_of, record_of}
 use Rattle.standing.specs.Part.{registered_of}
 use Rattle.standing.specs.Rouses.{rouses_of}
 use Rattle.standing.specs.Stands.{aside_in, in_list_of, part_at, held_below, in_queue_of, waiting_of, standing_of}
@@ -46,11 +39,12 @@ use Rattle.standing.specs.declared.stands.Standing.TheVariants as Stands
 use Rattle.print.specs.Text.{ascii, decimal}
 use Rattle.print.specs.Replayed.{event_text}
 use Rattle.print.specs.Shown.{digits_few, digit_one, event_text_short}
-use Rattle.traced.specs.Event.{node_text, nodes_text, refusal_text, listed_text, waiters_by, waiters_text}
-use Rattle.traced.specs.Event.{sits_text, raw_text, counted_text, readers_by, readers_text, state_text}
+use Rattle.traced.specs.Event.{node_text, nodes_text, refusal_text, listed_text, waiters_by, waiters_text, sits_text}
+use Rattle.traced.specs.Event.{raw_text, counted_text, readers_by, readers_text, state_text}
+use Rattle.traced.specs.Laws.{name_fits}
 use Rattle.traced.specs.Place.{place_text}
-use Rattle.traced.specs.Thread.{holding_text, token_text, rouser_text, rousers_text, standing_text}
-use Rattle.traced.specs.Thread.{record_text, record_of, thread_text}
+use Rattle.traced.specs.Thread.{holding_text, token_text, rouser_text, rousers_text, standing_text, record_text}
+use Rattle.traced.specs.Thread.{thread_text}
 use Rattle.traced.specs.Whole.{trace_line}
 
 -- a number below ten, after a space
@@ -66,52 +60,43 @@ refusal_short refusal = numbered (ascii " refused ") (refusal_number refusal)
 
 -- ── the waiters ──
 
-module _ (ns : List NodeNumber) (small : (k : ℕ) → (get_or ns k none).0 < 10) where
-  node_short : (k : ℕ) → length (node_text (get_or ns k none)) ≤ 2
-  node_short k =
+module _ (ns : List NodeNumber) (small : (k : ℕ) → k < length ns → (get_or ns k none).0 < 10) where
+  node_short : (k : ℕ) → k < length ns → length (node_text (get_or ns k none)) ≤ 2
+  node_short k h =
       let n = get_or ns k none in
       pick_both (λ (text : List ℕ). length text ≤ 2) (is_none n) [] (ascii " " ++ decimal n.0)
       (λ _. omega arith)
-      (λ _. spaced_digit n.0 (small k))
+      (λ _. spaced_digit n.0 (small k h))
 
-  nodes_short : (k : ℕ) → length (nodes_text k ns) ≤ 2 * k
+  nodes_short : (k : ℕ) → k ≤ length ns → length (nodes_text k ns) ≤ 2 * k
   unfolding nodes_text
-  nodes_short zero = omega arith
-  nodes_short (suc k) =
-      omega (arith, nodes_short k, node_short k, length-append (nodes_text k ns) (node_text (get_or ns k none)))
+  nodes_short zero h = omega arith
+  nodes_short (suc k) h =
+      let one_more = length-append (nodes_text k ns) (node_text (get_or ns k none)) in
+      omega (arith, nodes_short k (omega arith), node_short k h, one_more)
 
 module _ (m : Machine) where
-  -- a good count is below ten
-  few : good_count m.count ≡ true → m.count ≤ thread_limit
-  few good = (in_range m.count thread_limit good).1
-
-  node_small : good_count m.count ≡ true → (k : ℕ) → (get_or (waiters_of m).nodes k none).0 < 10
-  node_small good k = by (dec_lt k (waiters_of m).length)
-    where
-      by : Dec (k < (waiters_of m).length) → (get_or (waiters_of m).nodes k none).0 < 10
-      by (yes h) =
-          let n = get_or (waiters_of m).nodes k none in
-          omega (arith, in_range n.0 m.count (waiters_within m k h), few good)
-      by (no h) =
-          let e : get_or (waiters_of m).nodes k none ≡ none = waiters_others m k (omega arith) in
-          omega (arith, ap (λ (n : NodeNumber). n.0) e)
-
-  listed_short : good_count m.count ≡ true → length (listed_text (waiters_of m)) ≤ 16
-  listed_short good =
-      let w = waiters_of m in
-      let nodes = nodes_text thread_limit w.nodes in
-      pick_both (λ (text : List ℕ). length text ≤ 16) (eqb w.length 0) (ascii " -") nodes
+  -- a count is below ten
+  listed_short : (w : Waiters) → waiters_of m ≡ Ok w → m.count ≤ thread_limit → length (listed_text w) ≤ 16
+  listed_short w is few =
+      let small : (k : ℕ) → k < length w.items → (get_or w.items k none).0 < 10 =
+      λ k h. omega (arith, in_range (get_or w.items k none).0 m.count (waiters_within m w is k h)) in
+      pick_both (λ (text : List ℕ). length text ≤ 16) (eqb (length w.items) 0) (ascii " -")
+      (nodes_text (length w.items) w.items)
       (λ _. omega arith)
-      (λ _. omega (arith, nodes_short w.nodes (node_small good) thread_limit))
+      (λ _. omega (arith, nodes_short w.items small (length w.items) (omega arith), waiters_most m w is))
 
-  waiters_by_short : good_count m.count ≡ true → (v : Verdict) → length (waiters_by v (waiters_of m)) ≤ 29
-  waiters_by_short good (Refused refusal) = refusal_short refusal
-  waiters_by_short good Fine = omega (arith, listed_short good)
+  waiters_by_short : good_count m.count ≡ true
+      → (waiters : Result Waiters Refusal)
+      → waiters_of m ≡ waiters
+      → length (waiters_by waiters) ≤ 29
+  waiters_by_short good (Err refusal) is = refusal_short refusal
+  waiters_by_short good (Ok w) is = omega (arith, listed_short w is (few_threads m.count good))
 
   waiters_short_by : (b : Bool) → good_count m.count ≡ b → length (waiters_text (waiters_of m)) ≤ 39
   waiters_short_by true good =
-      let all = length-append (ascii " | waiters") (waiters_by (waiters_of m).verdict (waiters_of m)) in
-      omega (arith, all, waiters_by_short good (waiters_of m).verdict)
+      let all = length-append (ascii " | waiters") (waiters_by (waiters_of m)) in
+      omega (arith, all, waiters_by_short good (waiters_of m) refl)
   waiters_short_by false bad = rw (waiters_bad_count m bad) (omega (arith, refusal_short Damaged))
 
   waiters_short : length (waiters_text (waiters_of m)) ≤ 39
@@ -141,18 +126,18 @@ counted_short r =
     (λ _. omega arith)
     (λ _. omega (arith, numbered (ascii " ") r.readers, sits_short r.sits, raw_short r, placed, all))
 
-readers_by_short : (v : Verdict) (r : Readers) → length (readers_by v r) ≤ 79
-readers_by_short (Refused refusal) r = omega (arith, refusal_short refusal)
-readers_by_short Fine r = counted_short r
+readers_by_short : (readers : Result Readers Refusal) → length (readers_by readers) ≤ 79
+readers_by_short (Err refusal) = omega (arith, refusal_short refusal)
+readers_by_short (Ok r) = counted_short r
 
-readers_short : (r : Readers) → length (readers_text r) ≤ 89
-readers_short r =
-    omega (arith, readers_by_short r.verdict r, length-append (ascii " | readers") (readers_by r.verdict r))
+readers_short : (readers : Result Readers Refusal) → length (readers_text readers) ≤ 89
+readers_short readers =
+    omega (arith, readers_by_short readers, length-append (ascii " | readers") (readers_by readers))
 
 -- ── an event's line ──
 
 pub trace_line_short :
-    (at : ℕ) (t : ThreadNumber) (answer : Answer) (woken : Owner) (m : Machine)
+    (at : ℕ) (t : ThreadNumber) (answer : Answer) (woken : Option ThreadNumber) (m : Machine)
     → length (trace_line at t answer woken m) ≤ 217
 trace_line_short at t answer woken m =
     let told = event_text at t answer woken m.word in
@@ -162,36 +147,6 @@ trace_line_short at t answer woken m =
     omega (arith, first, waiters_short m, readers_short (readers_of m), state, all)
 
 -- ── a thread's line ──
-
-place_short : (p : Place) → length (place_text p) ≤ 19
-place_short At.Idle = omega arith
-place_short (At.TryReadLoad _) = omega arith
-place_short (At.TryReadCas _ _) = omega arith
-place_short (At.TryWriteOr _) = omega arith
-place_short (At.ContendLoad _ _) = omega arith
-place_short (At.ContendCas _ _ _) = omega arith
-place_short (At.RegisterCas _ _ _) = omega arith
-place_short (At.CompletedLoad _) = omega arith
-place_short (At.Park _) = omega arith
-place_short (At.WalkTail _ _ _) = omega arith
-place_short (At.WalkNext _ _ _) = omega arith
-place_short (At.WalkPrev _ _ _ _) = omega arith
-place_short (At.WalkHead _ _ _) = omega arith
-place_short (At.QueueCas _ _) = omega arith
-place_short (At.SplitPrev _ _ _) = omega arith
-place_short (At.SplitStore _ _ _ _) = omega arith
-place_short (At.SplitCas _ _ _) = omega arith
-place_short (At.SplitRestore _ _ _ _) = omega arith
-place_short (At.TakeCas _ _ _) = omega arith
-place_short (At.WakePrev _ _) = omega arith
-place_short (At.WakeStore _ _ _) = omega arith
-place_short At.ReadUnlockLoad = omega arith
-place_short (At.ReadUnlockCas _) = omega arith
-place_short (At.Subtract _ _) = omega arith
-place_short At.WriteUnlockCas = omega arith
-place_short (At.ReleaseCas _) = omega arith
-place_short At.DowngradeCas = omega arith
-place_short (At.DowngradeSlowCas _) = omega arith
 
 holding_short : (h : Holding) → length (holding_text h) ≤ 15
 holding_short Holds.Nothing = omega arith
@@ -211,7 +166,7 @@ record_short t r =
     let front = named ++ ascii " " ++ place_text r.place ++ holding_text r.holding in
     let all = length-append front (token_text r.token) in
     let number = numbered (ascii "thread ") t.0 in
-    let place = place_short r.place in
+    let place = name_fits r.place in
     let holding = holding_short r.holding in
     omega (arith, number, spaced, placed, place, held, holding, all, token_short r.token)
 
@@ -229,11 +184,8 @@ module _ (m : Machine) where
       omega (arith, rousers_short k (omega arith), rouser_short k h, length-append (rousers_text k m) (rouser_text m k))
 
   -- nobody is in the queue of a machine with a bad count
-  none_queued : (n : NodeNumber) → 0 < n.0 → good_count m.count ≡ false → in_queue_of m n ≡ false
-  unfolding among_below
-  none_queued n some bad =
-      let other : eqb 0 n.0 ≡ false = ne_eqb 0 n.0 (λ e. omega arith) in
-      rw (waiters_bad_count m bad) (simp other)
+  none_queued : (n : NodeNumber) → good_count m.count ≡ false → in_queue_of m n ≡ false
+  none_queued n bad = rw (waiters_bad_count m bad)
 
   abbrev Short : Standing → Type 0
   Short standing = length (standing_text m standing) ≤ 45
@@ -259,14 +211,13 @@ module _ (m : Machine) where
   queue_short_by :
       (n : NodeNumber) (b : Bool)
       → good_count m.count ≡ b
-      → 0 < n.0
       → in_queue_of m n ≡ true
       → Short Stands.InQueue
-  queue_short_by n true good some met =
-      let few = (in_range m.count thread_limit good).1 in
+  queue_short_by n true good met =
+      let few = few_threads m.count good in
       let all = length-append (ascii ", in the queue, waits for") (rousers_text m.count m) in
       omega (arith, few, all, rousers_short m.count (omega (arith, few)))
-  queue_short_by n false bad some met = absurd (false≢true (sym (none_queued n some bad) ∙ met))
+  queue_short_by n false bad met = absurd (false≢true (sym (none_queued n bad) ∙ met))
 
   standing_short : (t : ThreadNumber) → Short (standing_of m t)
   standing_short t =
@@ -276,7 +227,7 @@ module _ (m : Machine) where
       (λ _. pick_both Short (completed_of m t.0) Stands.Completed queued
       (λ _. omega arith)
       (λ _. pick_both Short (in_queue_of m n) Stands.InQueue (held_below m.count m n)
-      (λ met. queue_short_by n (good_count m.count) refl (omega arith) met)
+      (λ met. queue_short_by n (good_count m.count) refl met)
       (λ _. held_short m.count n)))
       (λ _. omega arith)
 

@@ -1,14 +1,15 @@
--- Laws for the loops that put nodes and threads, one more; and for a place's name, without its blanks.
+-- Laws for the loops that put nodes and threads, one more; and how long a place's name is.
 -- Assumes nothing.
-use Rattle.std.specs.Prelude.{ℕ, suc, ◌+◌, ◌-◌, ◌≤◌, ◌≡◌, refl, List, [], ◌++◌, length, replicate, take, get_or}
-use Rattle.std.proofs.Common.{ap, arith, length-append}
-use Rattle.std.proofs.Math.Seq.{take-append_seam}
+use Rattle.std.specs.Prelude.{ℕ, suc, ◌+◌, ◌≤◌, ◌≡◌, refl, List, [], ◌++◌, length, get_or}
+use Rattle.std.proofs.Common.{ap, arith}
 use Rattle.word.specs.Number.{none}
 use Rattle.word.specs.declared.number.NodeNumber.{NodeNumber}
 use Rattle.state.specs.declared.machine.Machine.{Machine}
 use Rattle.state.specs.declared.place.Place.{Place}
+use Rattle.state.specs.declared.place.Place.TheVariants as At
+use Rattle.print.specs.Laws.{lines, put_none, put_both}
 use Rattle.traced.specs.Event.{node_text, nodes_text}
-use Rattle.traced.specs.Place.{place_text, name_width, name_of}
+use Rattle.traced.specs.Place.{place_text, name_width}
 use Rattle.traced.specs.Thread.{rouser_text, rousers_text}
 
 -- ── the nodes of a listing ──
@@ -38,9 +39,36 @@ rousers_more k m =
 
 -- ── the names of places ──
 
--- the blanks after a name are no part of it
-pub name_is : (p : Place) → take (name_of p).length (name_of p).bytes ≡ place_text p
-name_is p = take-append_seam (place_text p) (replicate (name_width - length (place_text p)) 32)
+pub name_fits : (p : Place) → length (place_text p) ≤ name_width
+name_fits At.Idle = omega arith
+name_fits (At.TryReadLoad _) = omega arith
+name_fits (At.TryReadCas _ _) = omega arith
+name_fits (At.TryWriteOr _) = omega arith
+name_fits (At.ContendLoad _ _) = omega arith
+name_fits (At.ContendCas _ _ _) = omega arith
+name_fits (At.RegisterCas _ _ _) = omega arith
+name_fits (At.CompletedLoad _) = omega arith
+name_fits (At.Park _) = omega arith
+name_fits (At.WalkTail _ _ _) = omega arith
+name_fits (At.WalkNext _ _ _) = omega arith
+name_fits (At.WalkPrev _ _ _ _) = omega arith
+name_fits (At.WalkHead _ _ _) = omega arith
+name_fits (At.QueueCas _ _) = omega arith
+name_fits (At.SplitPrev _ _ _) = omega arith
+name_fits (At.SplitStore _ _ _ _) = omega arith
+name_fits (At.SplitCas _ _ _) = omega arith
+name_fits (At.SplitRestore _ _ _ _) = omega arith
+name_fits (At.TakeCas _ _ _) = omega arith
+name_fits (At.WakePrev _ _) = omega arith
+name_fits (At.WakeStore _ _ _) = omega arith
+name_fits At.ReadUnlockLoad = omega arith
+name_fits (At.ReadUnlockCas _) = omega arith
+name_fits (At.Subtract _ _) = omega arith
+name_fits At.WriteUnlockCas = omega arith
+name_fits (At.ReleaseCas _) = omega arith
+name_fits At.DowngradeCas = omega arith
+name_fits (At.DowngradeSlowCas _) = omega arith
 
-pub name_fits : (p : Place) → (name_of p).length ≤ length (name_of p).bytes
-name_fits p = simp length-append (omega arith)
+-- ── all of a text's laws, for the functions that put it ──
+
+pub ruleset texts = (lines, nodes_none, nodes_more, rousers_none, rousers_more)

@@ -1,9 +1,8 @@
 -- A place by the name it has in docs/PLACES.md; asleep means at park. Assumes nothing.
-use Rattle.std.specs.Prelude.{ℕ, ◌-◌, List, ◌++◌, length, replicate}
+use Rattle.std.specs.Prelude.{ℕ, List}
 use Rattle.state.specs.declared.place.Place.{Place}
 use Rattle.state.specs.declared.place.Place.TheVariants as At
 use Rattle.print.specs.Text.{ascii}
-use Rattle.traced.specs.declared.place.Name.{Name}
 
 abbrev pub place_text : Place → List ℕ
 place_text At.Idle = ascii "idle"
@@ -38,11 +37,3 @@ place_text (At.DowngradeSlowCas _) = ascii "at DowngradeSlowCas"
 -- the longest name's length
 abbrev pub name_width : ℕ
 name_width = 19
-
--- its bytes, with blanks up to that many, and how many they are
-abbrev pub name_of : Place → Name
-name_of p =
-    record {
-      bytes = place_text p ++ replicate (name_width - length (place_text p)) 32;
-      length = length (place_text p);
-    }

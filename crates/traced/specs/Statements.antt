@@ -2,13 +2,13 @@
 -- Statements.antt), and a line for each thread after why the replay stopped.
 -- Not here: the proof (Theorems.antt).
 -- Assumes nothing.
-use Rattle.std.specs.Prelude.{ℕ, ◌+◌, ◌<◌, List, [], ◌≡◌, length, drop, get_or}
+use Rattle.std.specs.Prelude.{ℕ, ◌+◌, ◌<◌, List, [], Ok, ◌≡◌, length, drop, get_or}
 use Rattle.word.specs.Number.{thread}
 use Rattle.state.specs.Machine.{fresh_of}
 use Rattle.state.specs.declared.machine.Machine.{Machine}
 use Rattle.schedule.specs.File.{header_length, checked_of}
 use Rattle.schedule.specs.Replay.{replay_of}
-use Rattle.schedule.specs.declared.file.Checked.TheVariants as File
+use Rattle.schedule.specs.declared.file.Head.{Head}
 use Rattle.print.specs.Statements.{TellsRun, Print, RefusedAlone}
 use Rattle.traced.specs.Thread.{thread_text}
 use Rattle.traced.specs.Whole.{trace_line}
@@ -24,5 +24,5 @@ pub record TellsAll (m : Machine) (s : List ℕ) (lines : List (List ℕ)) : Typ
 pub record TracesWhole (trace : Print) : Type 0 where
   pub refused : RefusedAlone trace
   pub accepted :
-      (s : List ℕ) (threads events : ℕ) → checked_of s ≡ File.Accepted threads events
-      → TellsAll (fresh_of threads).machine (drop header_length s) (trace s)
+      (s : List ℕ) (head : Head) → checked_of s ≡ Ok head
+      → TellsAll (fresh_of head.threads).machine (drop header_length s) (trace s)

@@ -4,7 +4,7 @@
 -- Assumes nothing.
 use Prim.Native.Nat.{ℕ, zero, suc, ◌+◌, ◌-◌, ◌<◌}
 use mathlib.Core.List.{List, [], ◌∷◌, ◌++◌}
-use Rattle.std.specs.Prelude.{◌≡◌, length, drop, get_or}
+use Rattle.std.specs.Prelude.{Result, Ok, Err, ◌≡◌, length, drop, get_or}
 use Rattle.std.proofs.Math.Path.{refl, ap}
 use Rattle.std.proofs.Common.{sym, subst, ◌∙◌, ext_get_or, get_or-append-add}
 use Rattle.std.proofs.Math.Decide.{dec_lt}
@@ -18,8 +18,7 @@ use Rattle.schedule.specs.File.{header_length, file_number, checked_of}
 use Rattle.schedule.specs.Replay.{replay_of}
 use Rattle.schedule.specs.Whole.{file_replay_by}
 use Rattle.schedule.specs.declared.file.FileRefusal.{FileRefusal}
-use Rattle.schedule.specs.declared.file.Checked.{Checked}
-use Rattle.schedule.specs.declared.file.Checked.TheVariants as File
+use Rattle.schedule.specs.declared.file.Head.{Head}
 use Rattle.print.specs.Replayed.{refused_text}
 use Rattle.print.specs.Whole.{event_lines, file_lines_by}
 use Rattle.print.specs.WholeLaws.{lines_count, lines_tell, tells_same}
@@ -82,29 +81,29 @@ module _ (m : Machine) (s : List ℕ) where
       counted : length (told ++ thread_lines end.count end) ≡ (replay_of m s).run + 1 + end.count
       counted = length-append told (thread_lines end.count end) ∙ rw (many, threads_count end end.count)
 
-abbrev trace_by : Checked → List ℕ → List (List ℕ)
+abbrev trace_by : Result Head FileRefusal → List ℕ → List (List ℕ)
 trace_by c s = file_lines_by trace_line c s ++ end_lines_by c (file_replay_by c s).machine
 
 pub prints_whole : TracesWhole trace_lines
 prints_whole =
     record {
       refused = λ s refusal e. alone s refusal e;
-      accepted = λ s threads events e. tells s threads events e;
+      accepted = λ s head e. tells s head e;
     }
   where
     alone :
-        (s : List ℕ) (refusal : FileRefusal) → checked_of s ≡ File.Refused refusal
+        (s : List ℕ) (refusal : FileRefusal) → checked_of s ≡ Err refusal
         → trace_lines s ≡ refused_text (file_number refusal) ∷ []
-    alone s refusal e = ap (λ (c : Checked). trace_by c s) e
+    alone s refusal e = ap (λ (c : Result Head FileRefusal). trace_by c s) e
 
     tells :
-        (s : List ℕ) (threads events : ℕ) → checked_of s ≡ File.Accepted threads events
-        → TellsAll (fresh_of threads).machine (drop header_length s) (trace_lines s)
-    tells s threads events e =
+        (s : List ℕ) (head : Head) → checked_of s ≡ Ok head
+        → TellsAll (fresh_of head.threads).machine (drop header_length s) (trace_lines s)
+    tells s head e =
         subst
-        (TellsAll (fresh_of threads).machine (drop header_length s))
-        (ap (λ (c : Checked). trace_by c s) (sym e))
-        (lines_tell_all (fresh_of threads).machine (drop header_length s))
+        (TellsAll (fresh_of head.threads).machine (drop header_length s))
+        (ap (λ (c : Result Head FileRefusal). trace_by c s) (sym e))
+        (lines_tell_all (fresh_of head.threads).machine (drop header_length s))
 
 -- ── no other trace does ──
 
@@ -122,15 +121,15 @@ module _ (m : Machine) (s : List ℕ) (xs ys : List (List ℕ)) (a : TellsAll m 
       ext_get_or [] xs ys (a.count ∙ sym b.count) (λ k h. same_line k h (dec_lt k ((replay_of m s).run + 1)))
 
 module _ (p q : Print) (right : TracesWhole p) (other : TracesWhole q) (s : List ℕ) where
-  equal_by : (c : Checked) → checked_of s ≡ c → p s ≡ q s
-  equal_by (File.Refused refusal) e = right.refused s refusal e ∙ sym (other.refused s refusal e)
-  equal_by (File.Accepted threads events) e =
-      same_lines (fresh_of threads).machine
+  equal_by : (c : Result Head FileRefusal) → checked_of s ≡ c → p s ≡ q s
+  equal_by (Err refusal) e = right.refused s refusal e ∙ sym (other.refused s refusal e)
+  equal_by (Ok head) e =
+      same_lines (fresh_of head.threads).machine
       (drop header_length s)
       (p s)
       (q s)
-      (right.accepted s threads events e)
-      (other.accepted s threads events e)
+      (right.accepted s head e)
+      (other.accepted s head e)
 
   pub only_one_trace : p s ≡ q s
   only_one_trace = equal_by (checked_of s) refl

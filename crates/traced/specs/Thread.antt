@@ -1,13 +1,13 @@
 -- The trace's line of a thread as text (docs/TRACE.md). Assumes nothing.
-use Rattle.std.specs.Prelude.{ℕ, zero, suc, Bool, List, [], ◌++◌, ltb}
+use Rattle.std.specs.Prelude.{ℕ, zero, suc, Bool, List, [], ◌++◌}
 use Rattle.word.specs.Base.{pick}
 use Rattle.word.specs.Number.{thread}
 use Rattle.word.specs.declared.number.ThreadNumber.{ThreadNumber}
-use Rattle.state.specs.Machine.{thread_limit, thread_at, blank_thread}
 use Rattle.state.specs.declared.holding.Holding.{Holding}
 use Rattle.state.specs.declared.holding.Holding.TheVariants.{Nothing, Read, Write}
 use Rattle.state.specs.declared.machine.Machine.{Machine}
 use Rattle.state.specs.declared.machine.Thread.{Thread}
+use Rattle.standing.specs.Look.{record_of}
 use Rattle.standing.specs.Stands.{standing_of}
 use Rattle.standing.specs.Rouses.{rouses_of}
 use Rattle.standing.specs.declared.stands.Standing.{Standing}
@@ -44,10 +44,6 @@ abbrev pub record_text : ThreadNumber → Thread → List ℕ
 record_text t r =
     ascii "thread " ++ decimal t.0 ++ ascii " " ++ place_text r.place
     ++ holding_text r.holding ++ token_text r.token
-
--- blank where there is no such thread
-abbrev pub record_of : Machine → ℕ → Thread
-record_of m k = pick (ltb k thread_limit) (thread_at m k) blank_thread
 
 abbrev pub thread_text : Machine → ThreadNumber → List ℕ
 thread_text m t = record_text t (record_of m t.0) ++ standing_text m (standing_of m t)

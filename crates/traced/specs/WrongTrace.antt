@@ -21,7 +21,7 @@ threads_left_out s = file_lines trace_line s
 pub threads_left_out_refuted : TracesWhole threads_left_out → ⊥
 unfolding checked_of replay_of event_lines
 threads_left_out_refuted holds =
-    let one : ◌≡◌ {A = ℕ} 1 2 = (holds.accepted empty 1 0 refl).count in
+    let one : ◌≡◌ {A = ℕ} 1 2 = (holds.accepted empty (record { threads = 1; events = 0 }) refl).count in
     omega arith
 
 -- the threads' lines twice
@@ -31,5 +31,5 @@ threads_twice s = trace_lines s ++ thread_lines 1 (file_replay_of s).machine
 pub threads_twice_refuted : TracesWhole threads_twice → ⊥
 unfolding checked_of replay_of event_lines thread_lines
 threads_twice_refuted holds =
-    let three : ◌≡◌ {A = ℕ} 3 2 = (holds.accepted empty 1 0 refl).count in
+    let three : ◌≡◌ {A = ℕ} 3 2 = (holds.accepted empty (record { threads = 1; events = 0 }) refl).count in
     omega arith

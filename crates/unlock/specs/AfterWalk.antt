@@ -1,11 +1,12 @@
 -- Find tail's last access, the store of the tail in the head, with the local code that follows it.
 -- Assumes nothing.
+use Rattle.std.specs.Prelude.{Err}
 use Rattle.word.specs.Base.{pick}
 use Rattle.word.specs.Flags.{locked, downgraded}
 use Rattle.word.specs.declared.flags.Word.{Word}
 use Rattle.word.specs.declared.number.NodeNumber.{NodeNumber}
 use Rattle.state.specs.Node.{with_tail}
-use Rattle.state.specs.View.{at, links}
+use Rattle.state.specs.View.{at, links, Stepped}
 use Rattle.state.specs.declared.answer.Refusal.TheVariants.{Damaged}
 use Rattle.state.specs.declared.node.Node.{Node}
 use Rattle.state.specs.declared.place.Who.{Who}
@@ -16,13 +17,11 @@ use Rattle.state.specs.declared.place.Place.TheVariants.{QueueCas, SplitPrev, Ta
 use Rattle.state.specs.declared.view.Mark.{Mark}
 use Rattle.state.specs.declared.view.Mark.TheVariants.{Missing, Reader, Writer}
 use Rattle.state.specs.declared.view.View.{View}
-use Rattle.state.specs.declared.view.Stepped.{Stepped}
-use Rattle.state.specs.declared.view.Stepped.TheVariants.{Refused}
 
 -- the tail's writer mark is read: without DOWNGRADED and with a writer tail, load its prev;
 -- in all other cases weak compare to 17 or 0
 abbrev pub marked_by : View → Node → Who → Word → NodeNumber → Mark → Stepped
-marked_by v n who seen tail Missing = Refused Damaged
+marked_by v n who seen tail Missing = Err Damaged
 marked_by v n who seen tail Reader = links v n (at (TakeCas who seen tail))
 marked_by v n who seen tail Writer =
     pick (downgraded seen) (links v n (at (TakeCas who seen tail))) (links v n (at (SplitPrev who seen tail)))

@@ -7,13 +7,12 @@ use Rattle.word.specs.Rules.{taken_of}
 use Rattle.word.specs.declared.flags.Word.{Word}
 use Rattle.word.specs.declared.number.NodeNumber.{NodeNumber}
 use Rattle.state.specs.Node.{with_tail}
-use Rattle.state.specs.View.{at, after_queue, walk_from, agrees_of, stays, writes, links}
+use Rattle.state.specs.View.{at, after_queue, walk_from, agrees_of, stays, writes, links, Stepped}
 use Rattle.state.specs.declared.place.Who.{Who}
 use Rattle.state.specs.declared.place.Walk.TheVariants.{Queue}
 use Rattle.state.specs.declared.place.Place.TheVariants.{SplitStore, SplitCas, SplitRestore}
 use Rattle.state.specs.declared.place.Place.TheVariants.{TakeCas, WakePrev, WakeStore}
 use Rattle.state.specs.declared.view.View.{View}
-use Rattle.state.specs.declared.view.Stepped.{Stepped}
 
 -- every failure finds the tail again from the new word
 abbrev pub walk_again : View → Who → Stepped

@@ -10,27 +10,13 @@ use word::{NodeNumber, Word};
 fn tail_marked(v: View, node: Node, who: Who, seen: Word, tail: NodeNumber) -> Stepped
     ensures { result ≡ tail_marked v node who seen tail }
 {
-    let take = Place::TakeCas {
-        who: who,
-        seen: seen,
-        tail: tail,
-    };
-    let mark = v.mark;
-    match mark {
-        Mark::Missing => Stepped::Refused(Refusal::Damaged),
-        Mark::Reader => v.links(node, Next::at(take)),
-        Mark::Writer => {
-            if seen.downgraded() {
-                return v.links(node, Next::at(take));
-            }
-            v.links(
-                node,
-                Next::at(Place::SplitPrev {
-                    who: who,
-                    seen: seen,
-                    tail: tail,
-                }),
-            )
+    match v.mark {
+        Mark::Missing => Err(Refusal::Damaged),
+        Mark::Writer if !seen.downgraded() => {
+            v.links(node, Next::at(Place::SplitPrev { who, seen, tail }))
+        }
+        Mark::Reader | Mark::Writer => {
+            v.links(node, Next::at(Place::TakeCas { who, seen, tail }))
         }
     }
 }
@@ -39,19 +25,11 @@ fn tail_marked(v: View, node: Node, who: Who, seen: Word, tail: NodeNumber) -> S
 fn tail_found(v: View, node: Node, who: Who, seen: Word, tail: NodeNumber) -> Stepped
     ensures { result ≡ tail_found v node who seen tail }
 {
-    if seen.locked() {
-        if seen.downgraded() {
-            return tail_marked(v, node, who, seen, tail);
-        }
-        return v.links(
-            node,
-            Next::at(Place::QueueCas {
-                who: who,
-                seen: seen,
-            }),
-        );
+    if seen.locked() && !seen.downgraded() {
+        v.links(node, Next::at(Place::QueueCas { who, seen }))
+    } else {
+        tail_marked(v, node, who, seen, tail)
     }
-    tail_marked(v, node, who, seen, tail)
 }
 
 fn walked(v: View, node: Node, walk: Walk, seen: Word, tail: NodeNumber) -> Stepped
@@ -59,13 +37,7 @@ fn walked(v: View, node: Node, walk: Walk, seen: Word, tail: NodeNumber) -> Step
 {
     match walk {
         Walk::Queue { who } => tail_found(v, node, who, seen, tail),
-        Walk::ReadUnlock => v.links(
-            node,
-            Next::at(Place::Subtract {
-                seen: seen,
-                tail: tail,
-            }),
-        ),
+        Walk::ReadUnlock => v.links(node, Next::at(Place::Subtract { seen, tail })),
         Walk::Downgrade => v.links(
             node,
             Next::at(Place::WakePrev {
@@ -79,6 +51,5 @@ fn walked(v: View, node: Node, walk: Walk, seen: Word, tail: NodeNumber) -> Step
 pub fn walk_head(v: View, walk: Walk, seen: Word, tail: NodeNumber) -> Stepped
     ensures { result ≡ walk_head_of v walk seen tail }
 {
-    let node = v.node.with_tail(tail);
-    walked(v, node, walk, seen, tail)
+    walked(v, v.node.with_tail(tail), walk, seen, tail)
 }

@@ -10,7 +10,7 @@ use word::{NodeNumber, Word};
 fn walk_again(v: View, who: Who) -> Stepped
     ensures { result ≡ walk_again v who }
 {
-    v.stays(Next::walk_from(Walk::Queue { who: who }, v.word))
+    v.stays(Next::walk_from(Walk::Queue { who }, v.word))
 }
 
 // Release the queue lock and leave waking to the holder.
@@ -18,10 +18,10 @@ pub fn queue_cas(v: View, who: Who, seen: Word) -> Stepped
     ensures { result ≡ queue_cas_of v who seen }
 {
     if v.agrees(seen) {
-        let h = v.holding;
-        return v.writes(seen.clear_queue_locked(), h, Next::after_queue(who));
+        v.writes(seen.clear_queue_locked(), v.holding, Next::after_queue(who))
+    } else {
+        walk_again(v, who)
     }
-    walk_again(v, who)
 }
 
 // Load the tail's prev: none, it is the only waiter, and the queue is taken whole.
@@ -29,18 +29,15 @@ pub fn split_prev(v: View, who: Who, seen: Word, tail: NodeNumber) -> Stepped
     ensures { result ≡ split_prev_of v who seen tail }
 {
     let prev = v.node.prev;
-    if prev.is_none() {
-        return v.stays(Next::at(Place::TakeCas {
-            who: who,
-            seen: seen,
-            tail: tail,
-        }));
-    }
-    v.stays(Next::at(Place::SplitStore {
-        who: who,
-        seen: seen,
-        tail: tail,
-        prev: prev,
+    v.stays(Next::at(if prev.is_none() {
+        Place::TakeCas { who, seen, tail }
+    } else {
+        Place::SplitStore {
+            who,
+            seen,
+            tail,
+            prev,
+        }
     }))
 }
 
@@ -48,14 +45,9 @@ pub fn split_prev(v: View, who: Who, seen: Word, tail: NodeNumber) -> Stepped
 pub fn split_store(v: View, who: Who, seen: Word, tail: NodeNumber, prev: NodeNumber) -> Stepped
     ensures { result ≡ split_store_of v who seen tail prev }
 {
-    let node = v.node.with_tail(prev);
     v.links(
-        node,
-        Next::at(Place::SplitCas {
-            who: who,
-            seen: seen,
-            tail: tail,
-        }),
+        v.node.with_tail(prev),
+        Next::at(Place::SplitCas { who, seen, tail }),
     )
 }
 
@@ -64,32 +56,33 @@ pub fn split_cas(v: View, who: Who, seen: Word, tail: NodeNumber) -> Stepped
     ensures { result ≡ split_cas_of v who seen tail }
 {
     if v.agrees(seen) {
-        let h = v.holding;
-        return v.writes(
+        v.writes(
             seen.clear_queue_locked(),
-            h,
+            v.holding,
             Next::at(Place::WakeStore {
-                who: who,
+                who,
                 current: tail,
-                prev: NodeNumber(0),
+                prev: NodeNumber::NONE,
             }),
-        );
+        )
+    } else {
+        v.stays(Next::at(Place::SplitRestore {
+            who,
+            seen,
+            tail,
+            reported: v.word,
+        }))
     }
-    let reported = v.word;
-    v.stays(Next::at(Place::SplitRestore {
-        who: who,
-        seen: seen,
-        tail: tail,
-        reported: reported,
-    }))
 }
 
 // Restore the OLD head's tail, and walk from the word that the failed compare reported.
 pub fn split_restore(v: View, who: Who, seen: Word, tail: NodeNumber, reported: Word) -> Stepped
     ensures { result ≡ split_restore_of v who seen tail reported }
 {
-    let node = v.node.with_tail(tail);
-    v.links(node, Next::walk_from(Walk::Queue { who: who }, reported))
+    v.links(
+        v.node.with_tail(tail),
+        Next::walk_from(Walk::Queue { who }, reported),
+    )
 }
 
 // Take the queue whole: the word becomes one reader's after a downgrade, else free.
@@ -97,15 +90,12 @@ pub fn take_cas(v: View, who: Who, seen: Word, tail: NodeNumber) -> Stepped
     ensures { result ≡ take_cas_of v who seen tail }
 {
     if v.agrees(seen) {
-        let h = v.holding;
-        return v.writes(
+        v.writes(
             seen.taken(),
-            h,
-            Next::at(Place::WakePrev {
-                who: who,
-                current: tail,
-            }),
-        );
+            v.holding,
+            Next::at(Place::WakePrev { who, current: tail }),
+        )
+    } else {
+        walk_again(v, who)
     }
-    walk_again(v, who)
 }

@@ -4,11 +4,10 @@ use Rattle.word.specs.Base.{pick}
 use Rattle.word.specs.Number.{is_none, owner_of}
 use Rattle.word.specs.declared.number.NodeNumber.{NodeNumber}
 use Rattle.state.specs.Node.{with_completed}
-use Rattle.state.specs.View.{at, after_queue, stays, completes}
+use Rattle.state.specs.View.{at, after_queue, stays, completes, Stepped}
 use Rattle.state.specs.declared.place.Who.{Who}
 use Rattle.state.specs.declared.place.Place.TheVariants.{WakePrev, WakeStore}
 use Rattle.state.specs.declared.view.View.{View}
-use Rattle.state.specs.declared.view.Stepped.{Stepped}
 
 -- load prev
 abbrev pub wake_prev_of : View → Who → NodeNumber → Stepped

@@ -6,11 +6,10 @@ use Rattle.word.specs.Flags.{to_node}
 use Rattle.word.specs.declared.flags.Word.{Word}
 use Rattle.word.specs.declared.number.NodeNumber.{NodeNumber}
 use Rattle.state.specs.Node.{with_prev}
-use Rattle.state.specs.View.{at, stays, links}
+use Rattle.state.specs.View.{at, stays, links, Stepped}
 use Rattle.state.specs.declared.place.Walk.{Walk}
 use Rattle.state.specs.declared.place.Place.TheVariants.{WalkTail, WalkNext, WalkPrev, WalkHead}
 use Rattle.state.specs.declared.view.View.{View}
-use Rattle.state.specs.declared.view.Stepped.{Stepped}
 
 -- load tail; if none, load next; if set, store it in the head
 abbrev pub walk_tail_of : View → Walk → Word → NodeNumber → Stepped

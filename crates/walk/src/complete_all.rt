@@ -9,11 +9,10 @@ use word::NodeNumber;
 pub fn wake_prev(v: View, who: Who, current: NodeNumber) -> Stepped
     ensures { result ≡ wake_prev_of v who current }
 {
-    let prev = v.node.prev;
     v.stays(Next::at(Place::WakeStore {
-        who: who,
-        current: current,
-        prev: prev,
+        who,
+        current,
+        prev: v.node.prev,
     }))
 }
 
@@ -23,15 +22,10 @@ pub fn wake_store(v: View, who: Who, current: NodeNumber, prev: NodeNumber) -> S
 {
     let node = v.node.with_completed();
     let woken = current.owner();
-    if prev.is_none() {
-        return v.completes(node, woken, Next::after_queue(who));
-    }
-    v.completes(
-        node,
-        woken,
-        Next::at(Place::WakePrev {
-            who: who,
-            current: prev,
-        }),
-    )
+    let next = if prev.is_none() {
+        Next::after_queue(who)
+    } else {
+        Next::at(Place::WakePrev { who, current: prev })
+    };
+    v.completes(node, woken, next)
 }

@@ -11,17 +11,14 @@ pub fn walk_tail(v: View, walk: Walk, seen: Word, current: NodeNumber) -> Steppe
     ensures { result ≡ walk_tail_of v walk seen current }
 {
     let tail = v.node.tail;
-    if tail.is_none() {
-        return v.stays(Next::at(Place::WalkNext {
-            walk: walk,
-            seen: seen,
-            current: current,
-        }));
-    }
-    v.stays(Next::at(Place::WalkHead {
-        walk: walk,
-        seen: seen,
-        tail: tail,
+    v.stays(Next::at(if tail.is_none() {
+        Place::WalkNext {
+            walk,
+            seen,
+            current,
+        }
+    } else {
+        Place::WalkHead { walk, seen, tail }
     }))
 }
 
@@ -29,13 +26,11 @@ pub fn walk_tail(v: View, walk: Walk, seen: Word, current: NodeNumber) -> Steppe
 pub fn walk_next(v: View, walk: Walk, seen: Word, current: NodeNumber) -> Stepped
     ensures { result ≡ walk_next_of v walk seen current }
 {
-    let link = v.node.next;
-    let next = link.to_node();
     v.stays(Next::at(Place::WalkPrev {
-        walk: walk,
-        seen: seen,
-        current: current,
-        next: next,
+        walk,
+        seen,
+        current,
+        next: v.node.next.to_node(),
     }))
 }
 
@@ -43,12 +38,11 @@ pub fn walk_next(v: View, walk: Walk, seen: Word, current: NodeNumber) -> Steppe
 pub fn walk_prev(v: View, walk: Walk, seen: Word, current: NodeNumber, next: NodeNumber) -> Stepped
     ensures { result ≡ walk_prev_of v walk seen current next }
 {
-    let node = v.node.with_prev(current);
     v.links(
-        node,
+        v.node.with_prev(current),
         Next::at(Place::WalkTail {
-            walk: walk,
-            seen: seen,
+            walk,
+            seen,
             current: next,
         }),
     )

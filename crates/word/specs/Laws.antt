@@ -8,7 +8,7 @@
 --     read_lock_.., write_lock_.., read_unlock_.., registered_.., taken_..    what the rule of that name does
 -- Assumes nothing.
 use Rattle.std.specs.Prelude.{ℕ, zero, suc, ◌+◌, ◌-◌, ◌*◌, ◌/◌, ◌%◌, ◌^◌, ◌≤◌, ◌<◌, Bool, true, false, ◌&&◌, ◌||◌, ◌⊎◌}
-use Rattle.std.specs.Prelude.{◌≡◌, refl, ltb, leb, eqb}
+use Rattle.std.specs.Prelude.{◌≡◌, refl, ltb, leb, eqb, Some, None}
 use Rattle.std.proofs.Math.Bool.{and-eq-true_iff}
 use Rattle.std.proofs.Common.{inl, inr, ⊎_elim, sym, ap, mul_assoc, arith, eqb-true, eq-eqb, ne_eqb, leb-false}
 use Rattle.std.proofs.Common.{ltb-false}
@@ -24,8 +24,6 @@ use Rattle.word.specs.Flags.{downgraded, set_locked, clear_locked, clear_downgra
 use Rattle.word.specs.Rules.{read_lock_of, write_lock_of, read_unlock_of, registered_of, taken_of, fewer}
 use Rattle.word.specs.declared.number.ThreadNumber.{ThreadNumber}
 use Rattle.word.specs.declared.flags.Word.{Word}
-use Rattle.word.specs.declared.rules.WriteLocked.TheVariants.{To as WriteTo, Refused as WriteRefused}
-use Rattle.word.specs.declared.rules.ReadLocked.TheVariants.{To as ReadTo, Refused as ReadRefused}
 use Rattle.word.specs.declared.rules.ReadUnlocked.{ReadUnlocked}
 use Rattle.word.specs.declared.rules.ReadUnlocked.TheVariants.{To as UnlockTo, Contended}
 use Rattle.word.specs.declared.rules.ReadUnlocked.TheVariants.{Refused as UnlockRefused}
@@ -46,7 +44,7 @@ abbrev pub apart : ℕ → ℕ → Bool
 apart f g = flag f && (flag g && (divides (f * 2) g || divides (g * 2) f))
 
 some : (f : ℕ) → flag f ≡ true → 0 < f
-some zero t = let bad : ◌≡◌ {A = ℕ} 0 1 = cc in omega arith
+some zero t = cc
 some (suc f) t = omega arith
 
 -- a word with the flag is at least the flag
@@ -160,23 +158,20 @@ pub record ReadGranted (w x : Word) : Type 0 where
   pub to : x ≡ set_locked (word (w.0 + SINGLE))
 
 module _ (w x : Word) where
-  read_refusal : ReadRefused ≡ ReadTo x → ⊥
-  read_refusal e = let bad : ◌≡◌ {A = ℕ} 0 1 = cc in omega arith
-
-  write_refusal : WriteRefused ≡ WriteTo x → ⊥
-  write_refusal e = let bad : ◌≡◌ {A = ℕ} 0 1 = cc in omega arith
+  refusal : None ≡ Some x → ⊥
+  refusal e = cc
 
   unlock_refusal : UnlockRefused ≡ UnlockTo x → ⊥
-  unlock_refusal e = let bad : ◌≡◌ {A = ℕ} 0 1 = cc in omega arith
+  unlock_refusal e = cc
 
   contention : Contended ≡ UnlockTo x → ⊥
-  contention e = let bad : ◌≡◌ {A = ℕ} 0 1 = cc in omega arith
+  contention e = cc
 
-  pub read_lock_granted : read_lock_of w ≡ ReadTo x → ReadGranted w x
+  pub read_lock_granted : read_lock_of w ≡ Some x → ReadGranted w x
   read_lock_granted e =
-      let q = pick_second (queued w) _ _ _ read_refusal e in
-      let l = pick_second (eqb w.0 LOCKED) _ _ _ read_refusal q.1 in
-      let m = pick_second (leb (2 ^ 64) (w.0 + SINGLE)) _ _ _ read_refusal l.1 in
+      let q = pick_second (queued w) _ _ _ refusal e in
+      let l = pick_second (eqb w.0 LOCKED) _ _ _ refusal q.1 in
+      let m = pick_second (leb (2 ^ 64) (w.0 + SINGLE)) _ _ _ refusal l.1 in
       record {
         unqueued = q.0;
         unwritten = eqb-false w.0 LOCKED l.0;
@@ -185,13 +180,13 @@ module _ (w x : Word) where
       }
 
   -- a granted read makes the word greater
-  pub read_lock_more : read_lock_of w ≡ ReadTo x → w.0 < x.0
+  pub read_lock_more : read_lock_of w ≡ Some x → w.0 < x.0
   read_lock_more e = rw (read_lock_granted e).to (omega (arith, set_up LOCKED (word (w.0 + SINGLE))))
 
   -- a granted write adds LOCKED, which was clear
-  pub write_lock_granted : write_lock_of w ≡ WriteTo x → (locked w ≡ false) × (x ≡ word (w.0 + LOCKED))
+  pub write_lock_granted : write_lock_of w ≡ Some x → (locked w ≡ false) × (x ≡ word (w.0 + LOCKED))
   write_lock_granted e =
-      let l = pick_second (locked w) _ _ _ write_refusal e in
+      let l = pick_second (locked w) _ _ _ refusal e in
       (l.0, cc (l.1, pick_no (locked w) (word (w.0 + LOCKED)) w _ l.0 refl))
 
   -- a retracted downgrade, and a reader that leaves the word, make it less

@@ -1,32 +1,28 @@
 -- What a word becomes, in document 01's order: write_lock, read_lock, registering, taking a queue whole, read_unlock.
 -- Assumes nothing.
-use Rattle.std.specs.Prelude.{◌+◌, ◌-◌, ◌*◌, ◌^◌, leb, ltb, eqb}
+use Rattle.std.specs.Prelude.{◌+◌, ◌-◌, ◌*◌, ◌^◌, leb, ltb, eqb, Option, Some, None}
 use Rattle.word.specs.Base.{pick}
 use Rattle.word.specs.Number.{node_of}
 use Rattle.word.specs.Flags.{word, LOCKED, QUEUED, QUEUE_LOCKED, DOWNGRADED, SINGLE, locked}
 use Rattle.word.specs.Flags.{queued, downgraded, set_locked, clear_locked, clear_downgraded}
 use Rattle.word.specs.declared.number.ThreadNumber.{ThreadNumber}
 use Rattle.word.specs.declared.flags.Word.{Word}
-use Rattle.word.specs.declared.rules.WriteLocked.{WriteLocked}
-use Rattle.word.specs.declared.rules.WriteLocked.TheVariants.{To as WriteTo, Refused as WriteRefused}
-use Rattle.word.specs.declared.rules.ReadLocked.{ReadLocked}
-use Rattle.word.specs.declared.rules.ReadLocked.TheVariants.{To as ReadTo, Refused as ReadRefused}
 use Rattle.word.specs.declared.rules.ReadUnlocked.{ReadUnlocked}
 use Rattle.word.specs.declared.rules.ReadUnlocked.TheVariants.{To as UnlockTo, Contended}
 use Rattle.word.specs.declared.rules.ReadUnlocked.TheVariants.{Refused as UnlockRefused}
 
 -- refuses if LOCKED is set, else sets it
-abbrev pub write_lock_of : Word → WriteLocked
-write_lock_of w = pick (locked w) WriteRefused (WriteTo (set_locked w))
+abbrev pub write_lock_of : Word → Option Word
+write_lock_of w = pick (locked w) None (Some (set_locked w))
 
 -- refuses if QUEUED is set, if the word is exactly 1, or if adding 16 overflows; else adds 16 and sets LOCKED
-abbrev pub read_lock_of : Word → ReadLocked
+abbrev pub read_lock_of : Word → Option Word
 read_lock_of w =
     pick (queued w)
-    ReadRefused
+    None
     (pick (eqb w.0 LOCKED)
-    ReadRefused
-    (pick (leb (2 ^ 64) (w.0 + SINGLE)) ReadRefused (ReadTo (set_locked (word (w.0 + SINGLE))))))
+    None
+    (pick (leb (2 ^ 64) (w.0 + SINGLE)) None (Some (set_locked (word (w.0 + SINGLE))))))
 
 -- own node, QUEUED, old DOWNGRADED and LOCKED; on a queued word QUEUE_LOCKED too
 abbrev pub registered_of : Word → ThreadNumber → Word

@@ -1,19 +1,16 @@
 -- Document 01's rows "on both sides of each edge" for the word's rules: one table, one computed test, one proof.
 -- Assumes nothing.
-use Rattle.std.specs.Prelude.{ℕ, zero, suc, ◌-◌, ◌^◌, Bool, true, ◌&&◌, ◌≡◌, refl, eqb}
+use Rattle.std.specs.Prelude.{ℕ, zero, suc, ◌-◌, ◌^◌, Bool, true, ◌&&◌, ◌≡◌, refl, eqb, Option, Some, None}
 use Rattle.std.proofs.Math.Bool.{and-eq-true_iff}
 use mathlib.Core.List.Memᴰ
 use mathlib.Core.List.{List, [], ◌∷◌, Memᴰ}
 use Rattle.std.proofs.Common.{⊎_elim, sym, ap₂, ◌∙◌, eqb-true}
 use Rattle.word.specs.Flags.{word}
 use Rattle.word.specs.Rules.{read_lock_of, write_lock_of, read_unlock_of}
-use Rattle.word.specs.declared.rules.WriteLocked.{WriteLocked}
-use Rattle.word.specs.declared.rules.WriteLocked.TheVariants.{To as WriteTo, Refused as WriteRefused}
-use Rattle.word.specs.declared.rules.ReadLocked.{ReadLocked}
-use Rattle.word.specs.declared.rules.ReadLocked.TheVariants.{To as ReadTo, Refused as ReadRefused}
 use Rattle.word.specs.declared.rules.ReadUnlocked.{ReadUnlocked}
 use Rattle.word.specs.declared.rules.ReadUnlocked.TheVariants.{To as UnlockTo, Contended}
 use Rattle.word.specs.declared.rules.ReadUnlocked.TheVariants.{Refused as UnlockRefused}
+use Rattle.word.specs.declared.flags.Word.{Word}
 
 -- an answer in the document's words: the word that comes of it, refused, a refusal's number,
 -- or left to the oldest waiter
@@ -23,13 +20,13 @@ pub data Outcome : Type 0 where
   is : ℕ → Outcome
   contended : Outcome
 
-abbrev pub read_locked : ReadLocked → Outcome
-read_locked (ReadTo x) = becomes x.0
-read_locked ReadRefused = refused
+abbrev pub read_locked : Option Word → Outcome
+read_locked (Some x) = becomes x.0
+read_locked None = refused
 
-abbrev pub write_locked : WriteLocked → Outcome
-write_locked (WriteTo x) = becomes x.0
-write_locked WriteRefused = refused
+abbrev pub write_locked : Option Word → Outcome
+write_locked (Some x) = becomes x.0
+write_locked None = refused
 
 abbrev pub read_unlocked : ReadUnlocked → Outcome
 read_unlocked (UnlockTo x) = becomes x.0

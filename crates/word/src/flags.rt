@@ -1,12 +1,13 @@
 // The word's flags: tests, and the changes that the step rules name.
-ghost use Rattle.std.specs.Prelude.{◌≡◌};
+ghost use Rattle.std.specs.Prelude.{◌≡◌, ◌+◌, ◌^◌, ◌<◌, false};
+ghost use Rattle.word.specs.Flags.{has, set_flag, clear_flag};
 ghost use Rattle.word.specs.Flags.{locked, queued, queue_locked, downgraded, set_locked};
 ghost use Rattle.word.specs.Flags.{clear_locked, set_queue_locked, clear_queue_locked};
 ghost use Rattle.word.specs.Flags.{set_downgraded, clear_downgraded, without_flags, to_node};
 
 use crate::number::NodeNumber;
 
-#[derive(Clone, Copy)]
+#[derive(Clone, Copy, PartialEq, Eq)]
 pub struct Word(pub u64);
 
 impl Word {
@@ -20,82 +21,95 @@ impl Word {
 
     pub const SINGLE: u64 = 16;
 
+    // A flag is one of the four bits above.
+    fn has(self, flag: u64) -> bool
+        requires { 0 < flag }
+        ensures { result ≡ has flag self }
+    {
+        self.0 / flag % 2 == 1
+    }
+
+    fn with_flag(self, flag: u64) -> Word
+        requires some { 0 < flag }
+        requires room { has flag self ≡ false → self.0 + flag < 2 ^ 64 }
+        ensures { result ≡ set_flag flag self }
+    {
+        if self.has(flag) {
+            self
+        } else {
+            Word(self.0 + flag)
+        }
+    }
+
+    fn without_flag(self, flag: u64) -> Word
+        requires { 0 < flag }
+        ensures { result ≡ clear_flag flag self }
+    {
+        if self.has(flag) {
+            Word(self.0 - flag)
+        } else {
+            self
+        }
+    }
+
     pub fn locked(self) -> bool
         ensures { result ≡ locked self }
     {
-        self.0 / Word::LOCKED % 2 == 1
+        self.has(Word::LOCKED)
     }
 
     pub fn queued(self) -> bool
         ensures { result ≡ queued self }
     {
-        self.0 / Word::QUEUED % 2 == 1
+        self.has(Word::QUEUED)
     }
 
     pub fn queue_locked(self) -> bool
         ensures { result ≡ queue_locked self }
     {
-        self.0 / Word::QUEUE_LOCKED % 2 == 1
+        self.has(Word::QUEUE_LOCKED)
     }
 
     pub fn downgraded(self) -> bool
         ensures { result ≡ downgraded self }
     {
-        self.0 / Word::DOWNGRADED % 2 == 1
+        self.has(Word::DOWNGRADED)
     }
 
     pub fn set_locked(self) -> Word
         ensures { result ≡ set_locked self }
     {
-        if self.locked() {
-            return self;
-        }
-        Word(self.0 + Word::LOCKED)
+        self.with_flag(Word::LOCKED)
     }
 
     pub fn clear_locked(self) -> Word
         ensures { result ≡ clear_locked self }
     {
-        if self.locked() {
-            return Word(self.0 - Word::LOCKED);
-        }
-        self
+        self.without_flag(Word::LOCKED)
     }
 
     pub fn set_queue_locked(self) -> Word
         ensures { result ≡ set_queue_locked self }
     {
-        if self.queue_locked() {
-            return self;
-        }
-        Word(self.0 + Word::QUEUE_LOCKED)
+        self.with_flag(Word::QUEUE_LOCKED)
     }
 
     pub fn clear_queue_locked(self) -> Word
         ensures { result ≡ clear_queue_locked self }
     {
-        if self.queue_locked() {
-            return Word(self.0 - Word::QUEUE_LOCKED);
-        }
-        self
+        self.without_flag(Word::QUEUE_LOCKED)
     }
 
     pub fn set_downgraded(self) -> Word
         ensures { result ≡ set_downgraded self }
     {
-        if self.downgraded() {
-            return self;
-        }
-        Word(self.0 + Word::DOWNGRADED)
+        self.with_flag(Word::DOWNGRADED)
     }
 
     pub fn clear_downgraded(self) -> Word
         ensures { result ≡ clear_downgraded self }
     {
-        if self.downgraded() {
-            return Word(self.0 - Word::DOWNGRADED);
-        }
-        self
+        self.without_flag(Word::DOWNGRADED)
     }
 
     // What a node's next is filled with: the number part alone, still sixteenfold.

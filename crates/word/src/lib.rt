@@ -16,5 +16,5 @@ pub mod number;
 pub mod rules;
 
 pub use flags::Word;
-pub use number::{NodeNumber, Owner, Slot, ThreadNumber};
-pub use rules::{ReadLocked, ReadUnlocked, WriteLocked};
+pub use number::{NodeNumber, ThreadNumber};
+pub use rules::{ONE_READER, ONE_WRITER, ReadUnlocked};

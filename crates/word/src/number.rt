@@ -2,25 +2,11 @@
 ghost use Rattle.std.specs.Prelude.{◌≡◌};
 ghost use Rattle.word.specs.Number.{node_of, owner_of, is_none, slot_of};
 
-#[derive(Clone, Copy)]
+#[derive(Clone, Copy, PartialEq, Eq)]
 pub struct ThreadNumber(pub u8);
 
-#[derive(Clone, Copy)]
+#[derive(Clone, Copy, Default, PartialEq, Eq)]
 pub struct NodeNumber(pub u64);
-
-// Whose a node is; no thread number fits a node number past 256.
-#[derive(Clone, Copy)]
-pub enum Owner {
-    Nobody,
-    Thread(ThreadNumber),
-}
-
-// Where a node lies among a machine's nodes.
-#[derive(Clone, Copy)]
-pub enum Slot {
-    Outside,
-    At(usize),
-}
 
 impl ThreadNumber {
     pub fn node(self) -> NodeNumber
@@ -36,32 +22,25 @@ impl NodeNumber {
     pub fn is_none(self) -> bool
         ensures { result ≡ is_none self }
     {
-        self.0 == NodeNumber::NONE.0
+        self == NodeNumber::NONE
     }
 
-    pub fn owner(self) -> Owner
+    // Whose a node is; no thread number fits a node number past 256.
+    pub fn owner(self) -> Option<ThreadNumber>
         ensures { result ≡ owner_of self }
     {
-        let n = self.0;
-        if n < 1 {
-            return Owner::Nobody;
-        }
-        if 256 < n {
-            return Owner::Nobody;
-        }
-        Owner::Thread(ThreadNumber((n - 1) as u8))
+        let index = self.0.checked_sub(1)?;
+        Some(ThreadNumber(u8::try_from(index).ok()?))
     }
 
-    pub fn slot(self, count: u8) -> Slot
+    // Where a node lies among the nodes of a machine of so many threads.
+    pub fn slot(self, count: u8) -> Option<usize>
         ensures { result ≡ slot_of self count }
     {
-        let n = self.0;
-        if n < 1 {
-            return Slot::Outside;
+        if (1..=count as u64).contains(&self.0) {
+            Some((self.0 - 1) as usize)
+        } else {
+            None
         }
-        if (count as u64) < n {
-            return Slot::Outside;
-        }
-        Slot::At((n - 1) as usize)
     }
 }

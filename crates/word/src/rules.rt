@@ -7,20 +7,11 @@ ghost use Rattle.word.specs.Rules.{write_lock_of, read_lock_of, read_unlock_of, 
 use crate::flags::Word;
 use crate::number::ThreadNumber;
 
+// The word of one writer, with nobody waiting.
+pub const ONE_WRITER: Word = Word(1);
+
 // The word of one reader, and of a writer that has become one.
 pub const ONE_READER: Word = Word(17);
-
-#[derive(Clone, Copy)]
-pub enum WriteLocked {
-    To(Word),
-    Refused,
-}
-
-#[derive(Clone, Copy)]
-pub enum ReadLocked {
-    To(Word),
-    Refused,
-}
 
 // What read_unlock's weak compare writes; Contended where the count stands in the oldest waiter, Refused where the word
 // counts no reader.
@@ -41,66 +32,52 @@ fn kept(keep: bool, flag: u64) -> u64
 impl Word {
     pub const FREE: Word = Word(0);
 
-    pub const MOST: u64 = 0xffff_ffff_ffff_ffff;
-
-    pub fn write_lock(self) -> WriteLocked
+    pub fn write_lock(self) -> Option<Word>
         ensures { result ≡ write_lock_of self }
     {
         if self.locked() {
-            return WriteLocked::Refused;
+            None
+        } else {
+            Some(self.set_locked())
         }
-        WriteLocked::To(self.set_locked())
     }
 
-    pub fn read_lock(self) -> ReadLocked
+    pub fn read_lock(self) -> Option<Word>
         ensures { result ≡ read_lock_of self }
     {
-        let w = self.0;
-        if self.queued() {
-            return ReadLocked::Refused;
+        if self.queued() || self == ONE_WRITER {
+            return None;
         }
-        if w == Word::LOCKED {
-            return ReadLocked::Refused;
-        }
-        if Word::MOST - Word::SINGLE < w {
-            return ReadLocked::Refused;
-        }
-        let more = w + Word::SINGLE;
-        ReadLocked::To(Word(more).set_locked())
+        let more = self.0.checked_add(Word::SINGLE)?;
+        Some(Word(more).set_locked())
     }
 
     pub fn read_unlock(self) -> ReadUnlocked
         ensures { result ≡ read_unlock_of self }
     {
-        let w = self.0;
         if !self.queued() {
-            if w < ONE_READER.0 {
-                return ReadUnlocked::Refused;
-            }
-            let less = w - ONE_READER.0;
-            if less == 0 {
-                return ReadUnlocked::To(Word::FREE);
-            }
-            return ReadUnlocked::To(Word(less).set_locked());
+            return match self.0.checked_sub(ONE_READER.0) {
+                None => ReadUnlocked::Refused,
+                Some(0) => ReadUnlocked::To(Word::FREE),
+                Some(less) => ReadUnlocked::To(Word(less).set_locked()),
+            };
         }
         if self.downgraded() {
-            let read = self.clear_downgraded();
-            let free = read.clear_locked();
-            return ReadUnlocked::To(free);
+            ReadUnlocked::To(self.clear_downgraded().clear_locked())
+        } else {
+            ReadUnlocked::Contended
         }
-        ReadUnlocked::Contended
     }
 
     // The word by which thread `me` registers its node on this one.
     pub fn registered(self, me: ThreadNumber) -> Word
         ensures { result ≡ registered_of self me }
     {
-        let own = me.node();
         let flags = Word::QUEUED
             + kept(self.downgraded(), Word::DOWNGRADED)
             + kept(self.locked(), Word::LOCKED)
             + kept(self.queued(), Word::QUEUE_LOCKED);
-        Word(own.0 * Word::SINGLE + flags)
+        Word(me.node().0 * Word::SINGLE + flags)
     }
 
     // The word that a queue taken whole leaves behind: one reader after a downgrade, else free.
@@ -108,8 +85,9 @@ impl Word {
         ensures { result ≡ taken_of self }
     {
         if self.downgraded() {
-            return ONE_READER;
+            ONE_READER
+        } else {
+            Word::FREE
         }
-        Word::FREE
     }
 }

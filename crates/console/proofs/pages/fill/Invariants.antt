@@ -4,8 +4,8 @@ use Rattle.std.proofs.Common.{◌-◌, length}
 use Rattle.console.specs.Filling.{Filling}
 use Rattle.console.proofs.pages.fill.Given as goal
 
-abbrev pub invariant-loop-moved : goal.invariant-loop-moved
-invariant-loop-moved l = Filling l.fn.traced l.fn.first l.fn.s l.fn.page l.page l.cursor l.at
+abbrev pub invariant-loop-which : goal.invariant-loop-which
+invariant-loop-which l = Filling l.fn.which l.fn.first l.fn.s l.page l.cursor l.at
 
-abbrev pub decreases-loop-moved : goal.decreases-loop-moved
-decreases-loop-moved l = length l.page - l.at
+abbrev pub decreases-loop-which : goal.decreases-loop-which
+decreases-loop-which l = length l.page - l.at

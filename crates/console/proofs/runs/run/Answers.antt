@@ -15,15 +15,15 @@ overflow_add-bytes g c =
 pub overflow_add-result : goal.overflow_add-result
 overflow_add-result g c =
     let most = paging_most c.loop-stop.invariant c.fill-filled.ensures c.flush-bytes.ensures in
-    omega (arith, most, c.requires, c.last-more.ensures.upper_bound)
+    omega (arith, most, c.requires, c.last.ensures.upper_bound)
 
-pub returns-in-Over : goal.returns-in-Over
-returns-in-Over g c =
-    let traced = c.args.traced in
+pub returns-in-Break : goal.returns-in-Break
+returns-in-Break g c =
+    let which = c.args.which in
     let s = c.args.s.now in
     let start = c.start-cursor.ensures in
-    let stop = c.in-Over.stop in
-    let over = paging_over c.loop-stop.invariant c.fill-filled.ensures c.flush-bytes.ensures stop c.in-Over.is in
-    let bytes = over.0 ∙ ap (λ (k : Cursor). length (to_print traced k s)) start in
+    let stop = c.in-Break.stop in
+    let over = paging_over c.loop-stop.invariant c.fill-filled.ensures c.flush-bytes.ensures stop c.in-Break.is in
+    let bytes = over.0 ∙ ap (λ (k : Cursor). length (to_print which k s)) start in
     let replay = over.1 ∙ ap (λ (k : Cursor). to_run k s) start in
-    run_printed traced c.args.first s c.fill-filled.result.cursor stop _ _ replay bytes c.last-more.ensures.value
+    run_printed which c.args.first s c.fill-filled.result.cursor stop _ _ replay bytes c.last.ensures.value

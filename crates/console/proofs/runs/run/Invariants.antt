@@ -6,7 +6,7 @@ use Rattle.console.specs.Paging.{Paging}
 use Rattle.console.proofs.runs.run.Given as goal
 
 abbrev pub invariant-loop-stop : goal.invariant-loop-stop
-invariant-loop-stop g l = Paging l.fn.traced l.initial.cursor l.fn.s l.fn.page l.page l.cursor l.bytes
+invariant-loop-stop g l = Paging l.fn.which l.initial.cursor l.fn.s l.cursor l.bytes
 
 abbrev pub decreases-loop-stop : goal.decreases-loop-stop
 decreases-loop-stop g l = length l.fn.s / event_width - l.cursor.at

@@ -1,24 +1,18 @@
--- `print::page::copy` meets its contract: one byte more. Assumes nothing.
-use Rattle.std.proofs.Common.{◌+◌, ◌≡◌, ap, ◌∙◌, arith, get_or, set}
-use Rattle.print.specs.Page.{copy_of}
-use Rattle.print.specs.PageLaws.{copy_none, copy_more}
+-- `print::page::copy` meets its contract: what std's copy leaves is the page that `copy_of` gives. Assumes nothing.
+use Rattle.std.proofs.Common.{◌+◌, ◌-◌, ◌++◌, ◌≡◌, ◌≤◌, ap, ◌∙◌, arith, length, take, drop, rules}
+use Rattle.std.proofs.lemmas.List.{length-take-le, take-take}
+use Rattle.std.proofs.lemmas.Slice.{put_mid-paste}
+use Rattle.print.specs.PageLaws.{copy_pastes}
 use Rattle.print.proofs.page.copy.Goals as goal
-
-pub loop-i-init : goal.loop-i-init
-loop-i-init c = (omega arith, copy_none c.args.page.now c.args.at c.args.line.bytes)
-
-pub loop-i-preserved : goal.loop-i-preserved
-loop-i-preserved c =
-    let l = c.loop-i in
-    let a = c.args in
-    let b = get_or a.line.bytes l.i 0 in (
-      omega arith,
-      ap (λ p. set p (a.at + l.i) b) l.invariant.1 ∙ copy_more a.page.now a.at a.line.bytes l.i,
-    )
 
 pub returns : goal.returns
 returns c =
-    let l = c.loop-i in
     let a = c.args in
-    let all : l.i ≡ a.line.length = omega arith in
-    l.invariant.1 ∙ ap (copy_of a.page.now a.at a.line.bytes) all
+    let n = a.line.length in
+    let b = a.line.bytes in
+    let room : n ≤ length b = search rules in
+    let front : c.copy_from_slice.new.self ≡ take n b = search rules in
+    let long : n ≡ length (take n b) = omega (arith, length-take-le n b room) in
+    put_mid-paste a.at (a.at + n - a.at) a.page.now _ (take n b) n front (omega arith) long
+    ∙ ap (λ t. take a.at a.page.now ++ t ++ drop (a.at + n) a.page.now) (take-take n n b (omega arith))
+    ∙ copy_pastes a.page.now a.at b n (omega arith) room

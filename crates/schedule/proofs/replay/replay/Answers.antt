@@ -1,28 +1,31 @@
 -- `schedule::replay::replay` meets its contract: by the laws of a refused event, an accepted one, and of none left.
 -- Assumes nothing.
-use Rattle.std.proofs.Common.{sym, ◌∙◌, arith}
+use Rattle.std.proofs.Common.{sym, ◌∙◌, arith, [], Ok, ◌/◌, ◌<◌, ◌≡◌, ap, get_or, length}
+use Rattle.schedule.specs.File.{event_width}
+use Rattle.schedule.specs.Replay.{stopped_of}
 use Rattle.schedule.specs.ReplayLaws.{ended_here, refused_here, accepted_here, event_read}
 use Rattle.schedule.proofs.replay.replay.Goals as goal
 
-pub returns-in-Refused : goal.returns-in-Refused
-returns-in-Refused c =
-    let l = c.loop-n in
+pub returns-in-Err : goal.returns-in-Err
+returns-in-Err c =
+    let l = c.loop-run in
     let s = c.args.s.now in
-    let e = event_read l.m s l.n c.code_at.ensures c.thread_at.ensures c.event-o.ensures in
-    c.stopped.ensures
-    ∙ (sym (refused_here l.m s l.n c.event-o.result c.loop-n-test.true e c.in-Refused.refusal c.in-Refused.is)
-    ∙ l.invariant.1)
+    let h : l.run < length s / event_width = omega arith in
+    let e = event_read s l.run h (ap (λ b. get_or b l.run []) c.as_chunks.ensures.front) l.machine c.event-o.ensures in
+    sym (refused_here l.machine s l.run _ h e c.in-Err.refusal c.in-Err.is) ∙ l.invariant
 
-pub loop-n-preserved : goal.loop-n-preserved
-loop-n-preserved c =
-    let l = c.loop-n in
+pub loop-run-preserved : goal.loop-run-preserved
+loop-run-preserved c =
+    let l = c.loop-run in
     let s = c.args.s.now in
-    let o = c.event-o.result in
-    let e = event_read l.m s l.n c.code_at.ensures c.thread_at.ensures c.event-o.ensures in
+    let h : l.run < length s / event_width = omega arith in
+    let e = event_read s l.run h (ap (λ b. get_or b l.run []) c.as_chunks.ensures.front) l.machine c.event-o.ensures in
     let t = c.in_default in
-    (omega arith, sym (accepted_here l.m s l.n o c.loop-n-test.true e t.field-0 t.field-1 t.is) ∙ l.invariant.1)
+    sym (accepted_here l.machine s l.run _ h e t.field-0.answer t.field-0.woken t.is) ∙ l.invariant
 
 pub returns : goal.returns
 returns c =
-    let l = c.loop-n in
-    c.stopped-2.ensures ∙ (sym (ended_here l.m c.args.s.now l.n (omega arith)) ∙ l.invariant.1)
+    let l = c.loop-run in
+    let s = c.args.s.now in
+    let e : length c.as_chunks.result.0.now ≡ l.run = omega arith in
+    ap (λ n. stopped_of l.machine n (Ok tt)) e ∙ (sym (ended_here l.machine s l.run (omega arith)) ∙ l.invariant)

@@ -1,8 +1,0 @@
--- `edges::moves::repeated` ends: the measure is how many times are left. Assumes nothing.
-use Rattle.edges.proofs.moves.repeated.Given as goal
-
-abbrev pub invariant-loop-left : goal.invariant-loop-left
-invariant-loop-left l = Unit {0}
-
-abbrev pub decreases-loop-left : goal.decreases-loop-left
-decreases-loop-left l = l.left
