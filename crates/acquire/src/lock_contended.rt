@@ -1,4 +1,5 @@
-// lock_contended: load and judge the word; take the lock, reload, or fill the node and register it.
+// lock_contended: load and judge the word; take the lock, reload, or fill the node and register it. What a place
+// carries is passed on as it stands in `Place` and in the definitions.
 ghost use Rattle.std.specs.Prelude.{◌≡◌};
 ghost use Rattle.word.specs.Base.{pick};
 ghost use Rattle.acquire.specs.TryRead.{try_read_refused};

@@ -2,8 +2,7 @@
 -- In order: a line laid; what is kept; one move more, by whether the replay goes on.
 -- Not here: what a page is in the end (Pages.antt, `Fills`); the law of one move (Moves.antt).
 -- Assumes nothing.
-use Rattle.std.specs.Prelude.{ℕ, ◌+◌, ◌-◌, ◌<◌, ◌≤◌, true, false, List, ◌++◌, ◌≡◌}
-use Rattle.std.specs.Prelude.{refl, is_some, leb, length, take}
+use Rattle.std.specs.Prelude.{ℕ, ◌+◌, ◌-◌, ◌<◌, ◌≤◌, true, false, List, ◌++◌, ◌≡◌, refl, is_some, leb, length, take}
 use Rattle.std.proofs.lemmas.Bool.{false≢true}
 use Rattle.std.proofs.Common.{append_assoc, sym, ap, subst, ◌∙◌, arith, leb-true}
 use Rattle.word.specs.Cases.{pick_first}

@@ -4,6 +4,7 @@
 -- Assumes nothing.
 use Rattle.std.specs.Prelude.{ℕ, ◌+◌, ◌*◌, ◌/◌, ◌<◌, ◌≤◌, List, ◌≡◌, length, take, drop, Option, Result}
 use Rattle.std.proofs.Common.{ap, subst, ◌∙◌, arith, length-append, length-drop, length-take-le}
+use Rattle.std.specs.declared.ops.ControlFlow.TheVariants.{Break}
 use Rattle.word.specs.declared.number.ThreadNumber.{ThreadNumber}
 use Rattle.state.specs.declared.answer.Answer.{Answer}
 use Rattle.state.specs.declared.machine.Machine.{Machine}
@@ -15,7 +16,6 @@ use Rattle.print.specs.Shown.{event_text_short}
 use Rattle.print.specs.WholeLaws.{bytes_most}
 use Rattle.traced.specs.Fits.{trace_line_short}
 use Rattle.console.specs.Output.{written_of}
-use Rattle.std.specs.declared.ops.ControlFlow.TheVariants.{Break}
 use Rattle.console.specs.Pages.{line_for, to_print, to_run, print_by, run_by, Fills, Going}
 use Rattle.console.specs.Written.{written_all}
 use Rattle.console.specs.declared.pages.Filled.{Filled}

@@ -3,6 +3,7 @@
 -- Assumes nothing.
 use Rattle.std.specs.Prelude.{ℕ, ◌+◌, ◌*◌, ◌≤◌, List, Result, Ok, ◌≡◌, length, drop}
 use Rattle.std.proofs.Common.{append-nil, sym, ap, subst, ◌∙◌, arith, length-append, length-drop}
+use Rattle.std.specs.declared.ops.ControlFlow.TheVariants.{Break}
 use Rattle.state.specs.Machine.{fresh_of}
 use Rattle.state.specs.declared.machine.Fresh.{Fresh}
 use Rattle.state.specs.declared.machine.Machine.{Machine}
@@ -19,9 +20,7 @@ use Rattle.schedule.specs.declared.whole.FileStop.{FileStop}
 use Rattle.print.specs.Whole.{event_lines, bytes_of}
 use Rattle.print.specs.WholeLaws.{bytes_append}
 use Rattle.console.specs.Pages.{line_for, to_print, to_run, run_by}
-use Rattle.console.specs.Runs.{end_lines}
-use Rattle.console.specs.Runs.{ran_bytes, ran_printed, file_bytes, file_printed}
-use Rattle.std.specs.declared.ops.ControlFlow.TheVariants.{Break}
+use Rattle.console.specs.Runs.{end_lines, ran_bytes, ran_printed, file_bytes, file_printed}
 use Rattle.console.specs.declared.pages.Lines.{Lines}
 use Rattle.console.specs.declared.pages.Lines.TheVariants.{Plain, Traced}
 use Rattle.console.specs.declared.runs.Printed.{Printed}

@@ -44,6 +44,7 @@ fn unreadable(rt: &(impl Eprint + AllocGlobal), what: &str, error: io::Error) ->
 }
 
 // How many bytes were put at the start: as many as there were before the end, a read of none, or all that were lent.
+// std's `read_exact` gives no count, and no clause bounds `io::copy`'s by what was lent.
 fn read(from: &mut impl Read, bytes: &mut [u8]) -> io::Result<usize>
     ensures { IfOk result (λ n. n ≤ length bytes.new) }
 {

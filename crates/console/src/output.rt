@@ -42,7 +42,7 @@ pub(crate) fn flush(rt: &(impl Print + Eprint + AllocGlobal), page: &[u8], at: u
     length
 }
 
-// Does any line fit from `at` on?
+// Does any line fit from `at` on? (print's `fits`, at the widest line.)
 pub(crate) fn has_room(size: usize, at: usize) -> bool
     ensures { result ≡ has_room size at }
 {

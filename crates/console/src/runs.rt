@@ -61,7 +61,8 @@ fn last(
     }
 }
 
-// Page after page, until the replay is over.
+// Page after page, until the replay is over. What is passed stands in no struct: of one that has the page in a field a
+// proof knows no bytes after a call.
 fn run(
     rt: &(impl Print + Eprint + AllocGlobal),
     which: Lines,

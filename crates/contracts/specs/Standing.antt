@@ -36,6 +36,12 @@ pub record_of_no_thread_writes :
     Allows record_of.Post (machine_of 1 0 [] [] & thread 9 & tt) (thread_of At.Idle Holds.Write) → ⊥
 record_of_no_thread_writes = apart_in (λ (t : Thread). t.holding) (λ e. clash (cc))
 
+pub record_of_anothers :
+    Allows record_of.Post
+    (machine_of 2 1 [] (thread_of At.Idle Holds.Write ∷ thread_of At.Idle Holds.Nothing ∷ []) & thread 1 & tt)
+    (thread_of At.Idle Holds.Write) → ⊥
+record_of_anothers = apart_in (λ (t : Thread). t.holding) (λ e. clash (cc))
+
 -- ── the part that a place has in the queue ──
 
 pub part_at_determined : (p : Place) → Determined (Allows part_at.Post (p & tt))

@@ -1,5 +1,6 @@
--- The contracts of crate state: each public function's result is determined, and two or three wrong answers that its
--- contract rules out. In the order of its files: access, answer, holding, machine, node, view. Assumes nothing.
+-- The contracts of crate state: each public function's result is determined (of an answer's text the bytes), and two or
+-- three wrong answers that its contract rules out. In the order of its files: access, answer, holding, machine, node,
+-- view. Assumes nothing.
 use Rattle.std.specs.Prelude.{ℕ, Bool, true, false, ◌≡◌, refl, List, [], Err, Ok, Option, Some, None, length}
 use Rattle.std.specs.Borrow.{Bor}
 use contract.Lifetimes.{Lfts}

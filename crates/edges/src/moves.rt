@@ -14,6 +14,7 @@ pub(crate) enum Call {
     WriteUnlock = 5,
 }
 
+// lock's code of a step.
 const STEP: u8 = 16;
 
 #[derive(Clone, Copy)]

@@ -1,7 +1,6 @@
 -- Every event keeps the invariant and is never refused 8: on the machine itself, over lock's `event_of`.
 -- Assumes nothing.
-use Rattle.std.specs.Prelude.{ℕ, suc, ◌+◌, ◌≤◌, ◌<◌, Bool, ◌⊎◌, ◌≡◌, leb, ltb, length, Err, Ok}
-use Rattle.std.specs.Prelude.{Option, Some, None}
+use Rattle.std.specs.Prelude.{ℕ, suc, ◌+◌, ◌≤◌, ◌<◌, Bool, ◌⊎◌, ◌≡◌, leb, ltb, length, Err, Ok, Option, Some, None}
 use Rattle.std.proofs.Math.Bool.{true, false}
 use Rattle.std.proofs.Common.{inl, inr, sym, ap, ◌∙◌, add-one, arith, length-set, leb-false, le-ltb}
 use Rattle.std.proofs.Math.Path.{refl, subst}

@@ -4,8 +4,7 @@
 --     set_refused, set_on              following next: a node that cannot be listed, and one that is
 --     tail_refused, tail_on, tail_met  going on to the tail: the same, and standing on it
 -- Assumes nothing.
-use Rattle.std.specs.Prelude.{ℕ, zero, suc, ◌-◌, ◌≤◌, true, false, List, [], ◌∷◌, ◌++◌, ◌≡◌, refl, eqb}
-use Rattle.std.specs.Prelude.{length}
+use Rattle.std.specs.Prelude.{ℕ, zero, suc, ◌-◌, ◌≤◌, true, false, List, [], ◌∷◌, ◌++◌, ◌≡◌, refl, eqb, length}
 use Rattle.std.proofs.Common.{inl, inr, sym, ap, arith, length-append}
 use Rattle.word.specs.Base.{pick}
 use Rattle.word.specs.Number.{is_none}
@@ -13,8 +12,7 @@ use Rattle.word.specs.Flags.{to_node}
 use Rattle.word.specs.declared.number.NodeNumber.{NodeNumber}
 use Rattle.state.specs.declared.machine.Machine.{Machine}
 use Rattle.state.specs.declared.node.Node.{Node}
-use Rattle.listing.specs.Listing.{Listed, lost, listed, prepend, node_by, link_of, stand}
-use Rattle.listing.specs.Listing.{to_tail, to_set, followed_of}
+use Rattle.listing.specs.Listing.{Listed, lost, listed, prepend, node_by, link_of, stand, to_tail, to_set, followed_of}
 use Rattle.listing.specs.Way.{Stood, CannotStand}
 
 -- what is listed so far, and what is still to come

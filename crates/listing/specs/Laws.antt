@@ -4,7 +4,7 @@
 --     waiters_most, waiters_within     it has at most as many nodes as the count, each in 1..count
 --     waiters_first, waiters_linked    the first is the word's node, each other the one that the next of the node
 --                                      before links to
---     waiters_others                   past its length it has no node
+--     waiters_others                   past its end there is no node
 --     waiters_some, waiters_met        of a queued word: it has a node, and ends on the first tail that it met
 --     waiters_refused                  refused, it is 8
 --     reads_most                       n threads have at most n reads
@@ -275,7 +275,7 @@ module _ (m : Machine) where
         (λ ns. (k : ℕ) → suc k < length ns → get_or ns (suc k) none ≡ link_of m (get_or ns k none))
         (λ ns t. trail_linked t) w is
 
-    -- past its length it has no node
+    -- past its end there is no node
     pub waiters_others : (k : ℕ) → length w.items ≤ k → get_or w.items k none ≡ none
     waiters_others k past = get_or_past w.items k none past
 

@@ -55,6 +55,7 @@ pub fn from_head(m: Machine, head: NodeNumber) -> Result<Waiters, Refusal>
     let mut waiters = Waiters::new();
     let mut at = head;
     let mut node = stand(m, at, &mut waiters)?;
+    // document 01's form: a loop whose break yields the tail that was found, or the refusal
     let tail = loop {
         if !node.tail.is_none() {
             break node.tail;

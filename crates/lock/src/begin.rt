@@ -6,8 +6,7 @@ ghost use Rattle.lock.specs.Decide.{begin_verdict, begins_in};
 
 use crate::code::Call;
 use crate::look::Look;
-use state::{Access, Answer, Holding, Kind, Next, Place, Refusal, Stepped, Thread};
-use word::ThreadNumber;
+use state::{Answer, Holding, Next, Place, Refusal, Stepped, Thread};
 
 fn first_place(call: Call) -> Place
     ensures { result ≡ first_place call }
@@ -40,10 +39,11 @@ fn may_begin(call: Call, holding: Holding) -> bool
     }
 }
 
+#[tactic(auto, unfolding(state::specs::Access::access_of))]
 fn is_idle(place: Place) -> bool
     ensures { result ≡ is_idle place }
 {
-    Access::of(ThreadNumber(0), place).kind == Kind::Nothing
+    matches!(place, Place::Idle)
 }
 
 // 3 inside a call, then 4.

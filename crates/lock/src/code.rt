@@ -1,6 +1,6 @@
 // The event code byte: 0 to 6 begin a call, 16 and 17 step, every other value is unknown.
 ghost use Rattle.std.specs.Prelude.{◌≡◌};
-ghost use Rattle.lock.specs.Code.{code_of};
+ghost use Rattle.lock.specs.Code.{call_of, code_of};
 
 #[derive(Clone, Copy)]
 pub enum Call {
@@ -20,19 +20,29 @@ pub enum Code {
     Fail,
 }
 
+// Of 0 to 6.
+fn call_of(code: u8) -> Call
+    ensures { result ≡ call_of code }
+{
+    match code {
+        0 => Call::Read,
+        1 => Call::Write,
+        2 => Call::TryRead,
+        3 => Call::TryWrite,
+        4 => Call::ReadUnlock,
+        5 => Call::WriteUnlock,
+        _ => Call::Downgrade,
+    }
+}
+
+// No TryFrom: its clause would say by a relation what this one says by the whole answer.
 pub fn code_of(code: u8) -> Option<Code>
     ensures { result ≡ code_of code }
 {
-    Some(match code {
-        0 => Code::Begin(Call::Read),
-        1 => Code::Begin(Call::Write),
-        2 => Code::Begin(Call::TryRead),
-        3 => Code::Begin(Call::TryWrite),
-        4 => Code::Begin(Call::ReadUnlock),
-        5 => Code::Begin(Call::WriteUnlock),
-        6 => Code::Begin(Call::Downgrade),
-        16 => Code::Step,
-        17 => Code::Fail,
-        _ => return None,
-    })
+    match code {
+        0..=6 => Some(Code::Begin(call_of(code))),
+        16 => Some(Code::Step),
+        17 => Some(Code::Fail),
+        _ => None,
+    }
 }

@@ -12,20 +12,14 @@ use word::ThreadNumber;
 fn sets_token(woken: Option<ThreadNumber>) -> bool
     ensures { result ≡ sets_token woken }
 {
-    match woken {
-        None => false,
-        Some(t) => (t.0 as usize) < THREADS,
-    }
+    woken.is_some_and(|t| (t.0 as usize) < THREADS)
 }
 
 // Where the record lies that is stored for the token; some record, where nobody is woken.
 fn token_index(woken: Option<ThreadNumber>) -> Index
     ensures { result.at ≡ token_index woken }
 {
-    match woken {
-        None => Index::bounded(0),
-        Some(t) => thread_index(t),
-    }
+    woken.map_or(Index::bounded(0), thread_index)
 }
 
 fn tokened(t: Thread, sets: bool) -> Thread

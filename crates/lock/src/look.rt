@@ -4,10 +4,11 @@
 // Reading never fails: where a machine has no such thread or node, the first is read, and `decide` refuses the event by
 // its count, its thread or its node without asking what was read there.
 ghost use Rattle.std.specs.Prelude.{◌≡◌, ◌<◌};
+ghost use Rattle.word.specs.Number.{slot_of};
 ghost use Rattle.state.specs.Machine.{thread_limit};
 ghost use Rattle.lock.specs.Step.{marked_of};
-ghost use Rattle.lock.specs.Look.{bounded_of, slot_index, thread_index, touched_slot, touched_index};
-ghost use Rattle.lock.specs.Look.{tail_slot, tail_index, mark_in, look_from, look_of, view_in};
+ghost use Rattle.lock.specs.Look.{bounded_of, slot_index, thread_index, touched_index};
+ghost use Rattle.lock.specs.Look.{tail_index, mark_in, look_from, look_of, view_in};
 
 use state::{Access, Machine, Mark, Node, Place, THREADS, Thread, View};
 use word::{NodeNumber, ThreadNumber, Word};
@@ -39,13 +40,11 @@ impl Index {
     }
 }
 
-fn slot_index(slot: Option<usize>) -> Index
-    ensures { result.at ≡ slot_index slot }
+// Where a node lies; the first, where the machine has no such node.
+fn node_index(n: NodeNumber, count: u8) -> Index
+    ensures { result.at ≡ slot_index (slot_of n count) }
 {
-    match slot {
-        None => Index::bounded(0),
-        Some(k) => Index::bounded(k),
-    }
+    Index::bounded(n.slot(count).unwrap_or(0))
 }
 
 // Where the thread's record lies.
@@ -55,18 +54,12 @@ pub(crate) fn thread_index(t: ThreadNumber) -> Index
     Index::bounded(t.0 as usize)
 }
 
-fn touched_slot(count: u8, me: ThreadNumber, place: Place) -> Option<usize>
-    ensures { result ≡ touched_slot count me place }
-{
-    Access::of(me, place).touched(me).slot(count)
-}
-
 // Where the node lies that the thread's access touches; at the word or the token, the thread's own.
 #[tactic(auto, unfolding(crate::specs::Look::touched_index))]
 pub(crate) fn touched_index(count: u8, me: ThreadNumber, t: Thread) -> Index
     ensures { result.at ≡ touched_index count me t }
 {
-    slot_index(touched_slot(count, me, t.place))
+    node_index(Access::of(me, t.place).touched(me), count)
 }
 
 // The node whose writer mark the local code of a step reads: the tail that a walk found.
@@ -80,17 +73,11 @@ fn marked(place: Place) -> NodeNumber
     }
 }
 
-fn tail_slot(count: u8, t: Thread) -> Option<usize>
-    ensures { result ≡ tail_slot count t }
-{
-    marked(t.place).slot(count)
-}
-
 #[tactic(auto, unfolding(crate::specs::Look::tail_index))]
 fn tail_index(count: u8, t: Thread) -> Index
     ensures { result.at ≡ tail_index count t }
 {
-    slot_index(tail_slot(count, t))
+    node_index(marked(t.place), count)
 }
 
 fn mark_in(slot: Option<usize>, writer: bool) -> Mark
@@ -115,7 +102,7 @@ impl Look {
             me,
             thread,
             node,
-            mark: mark_in(tail_slot(count, thread), tail.writer),
+            mark: mark_in(marked(thread.place).slot(count), tail.writer),
         }
     }
 

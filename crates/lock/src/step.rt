@@ -14,9 +14,10 @@ fn failing(fails: bool) -> Result<(), Refusal>
     ensures { result ≡ failing_of fails }
 {
     if fails {
-        return Err(Refusal::CannotFail);
+        Err(Refusal::CannotFail)
+    } else {
+        Ok(())
     }
-    Ok(())
 }
 
 // park returns for no cause, or with a token.
@@ -24,9 +25,10 @@ fn parking(token: bool, fails: bool) -> Result<(), Refusal>
     ensures { result ≡ parking_of token fails }
 {
     if fails || token {
-        return Ok(());
+        Ok(())
+    } else {
+        Err(Refusal::NoToken)
     }
-    Err(Refusal::NoToken)
 }
 
 fn halted(kind: Kind, token: bool, fails: bool) -> Result<(), Refusal>

@@ -3,11 +3,10 @@
 -- laid keeps the page's length; a text and its end, laid where any line fits, stand there whole.
 -- Not here: that every line fits (Shown.antt, and the trace's in crate traced).
 -- Assumes nothing.
-use Rattle.std.specs.Prelude.{ℕ, zero, suc, ◌+◌, ◌-◌, ◌≤◌, ◌<◌, true, false, ◌≡◌, refl, List, ◌++◌, leb}
-use Rattle.std.specs.Prelude.{length, take, get_or, set}
+use Rattle.std.specs.Prelude.{ℕ, zero, suc, ◌+◌, ◌-◌, ◌≤◌, ◌<◌, true, false, ◌≡◌, refl, List, ◌++◌, leb, length, take}
+use Rattle.std.specs.Prelude.{get_or, set}
 use Rattle.std.proofs.lemmas.Bool.{false≢true}
-use Rattle.std.proofs.Common.{sym, ap, ◌∙◌, arith, leb-true, le-leb, length-set}
-use Rattle.std.proofs.Common.{length-append}
+use Rattle.std.proofs.Common.{sym, ap, ◌∙◌, arith, leb-true, le-leb, length-set, length-append}
 use Rattle.std.proofs.Math.Seq.{paste, paste-zero, paste-suc}
 use Rattle.std.proofs.lemmas.List.Edits.{take-paste}
 use Rattle.word.specs.Base.{pick}

@@ -2,8 +2,7 @@
 -- document 01's lines fit, with their ends. Assumes nothing.
 use Rattle.std.specs.Prelude.{ℕ, zero, suc, ◌+◌, ◌-◌, ◌*◌, ◌/◌, ◌%◌, ◌^◌, ◌≤◌, ◌<◌, ◌≡◌, refl, List, [], ◌∷◌, ◌++◌}
 use Rattle.std.specs.Prelude.{length, take, set, Option, Some, None, Result, Ok, Err}
-use Rattle.std.proofs.Common.{sym, ap, ◌∙◌, append-nil, pow-suc, arith, lt-ltb, length-set, length-append}
-use Rattle.std.proofs.Common.{take-suc-set}
+use Rattle.std.proofs.Common.{sym, ap, ◌∙◌, append-nil, pow-suc, arith, lt-ltb, length-set, length-append, take-suc-set}
 use Rattle.std.proofs.Math.Decide.{dec_lt}
 use Rattle.std.proofs.Math.Nat.{pow-zero}
 use Rattle.std.proofs.Math.Seq.{append_snoc}

@@ -43,6 +43,7 @@ pub fn end_line(run: usize) -> Line
     Line::blank().text(b"end ").decimal(run as u64)
 }
 
+// By its number, since an event's refusal and a file's are two enums.
 pub fn refused_line(number: u8) -> Line
     ensures { result ≡ line_of (refused_text number) }
 {

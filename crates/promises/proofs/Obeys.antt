@@ -657,7 +657,7 @@ module _ (v : View) where
       → (r : ReadUnlocked)
       → All (Obeys v p) (read_unlock_by v v.word r)
   unfolding stand_of
-  read_unlock_judged_lem p nobody quiet (UnlockTo to) =
+  read_unlock_judged_lem p nobody quiet (UnlockTo _) =
       stays_obeys v p (at (At.ReadUnlockCas v.word)) nobody (quiet elsewhere refl) refl refl
   read_unlock_judged_lem p nobody quiet Contended =
       stays_obeys v p (walk_from ReadUnlock v.word) nobody (quiet walks refl) refl refl

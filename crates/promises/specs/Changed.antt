@@ -4,8 +4,7 @@
 -- make; machines to try them on.
 -- Not here: what is wrong with a changed program.
 -- Assumes nothing.
-use Rattle.std.specs.Prelude.{ℕ, Bool, true, false, ◌≡◌, refl, leb, eqb, replicate, set, Err, Ok}
-use Rattle.std.specs.Prelude.{Option, Some, None}
+use Rattle.std.specs.Prelude.{ℕ, Bool, true, false, ◌≡◌, refl, leb, eqb, replicate, set, Err, Ok, Option, Some, None}
 use Rattle.std.proofs.Common.{ap}
 use Rattle.word.specs.Base.{pick}
 use Rattle.word.specs.Flags.{word}

@@ -1,8 +1,7 @@
 -- What an accepted event is: a call begun, or a step whose access lies in the machine and whose rule
 -- accepts, with its change stored.
 -- Assumes nothing.
-use Rattle.std.specs.Prelude.{ℕ, ◌<◌, Bool, true, false, ◌≡◌, refl, leb, eqb, Err, Ok}
-use Rattle.std.specs.Prelude.{Option, Some, None}
+use Rattle.std.specs.Prelude.{ℕ, ◌<◌, Bool, true, false, ◌≡◌, refl, leb, eqb, Err, Ok, Option, Some, None}
 use Rattle.std.proofs.Common.{arith, leb-false, eqb-true}
 use Rattle.word.specs.Base.{pick}
 use Rattle.word.specs.Cases.{pick_both, pick_first, pick_second}

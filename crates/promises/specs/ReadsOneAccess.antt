@@ -2,8 +2,7 @@
 -- the two machines; a step; a begin; the event.
 -- Not here: the statement (Statements.antt); that the rules do the same (Twins.antt).
 -- Assumes nothing.
-use Rattle.std.specs.Prelude.{ℕ, ◌+◌, ◌≤◌, ◌<◌, Bool, true, false, ◌⊎◌, ◌≡◌, leb, Err, Ok}
-use Rattle.std.specs.Prelude.{Option, Some, None}
+use Rattle.std.specs.Prelude.{ℕ, ◌+◌, ◌≤◌, ◌<◌, Bool, true, false, ◌⊎◌, ◌≡◌, leb, Err, Ok, Option, Some, None}
 use Rattle.std.proofs.Common.{inl, sym, ◌∙◌, arith, leb-false, get_or-set_same}
 use Rattle.std.proofs.Math.Path.{refl, ap, subst}
 use Rattle.word.specs.Base.{pick}

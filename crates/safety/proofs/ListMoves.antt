@@ -212,6 +212,8 @@ event_lists m ok e =
       where
         by : (r : Reply) → (event_of m e.code e.thread).reply ≡ r
             → aside_now (after m e) safe.ok u ≡ aside_now m ok u
-        by (Ok told) f = ap (λ p. aside_of (part_of p)) ((changes_little m e.code e.thread told.answer told.woken f).places u ne)
+        by (Ok told) f =
+            let little = changes_little m e.code e.thread told.answer told.woken f in
+            ap (λ p. aside_of (part_of p)) (little.places u ne)
         by (Err r) f =
             ap (λ x. aside_of (part_of (thread_at x u).place)) (refusal_changes_nothing m e.code e.thread r f)

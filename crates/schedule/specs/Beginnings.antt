@@ -37,7 +37,8 @@ module _ (m : Machine) (s : List ℕ) where
         there = omega arith;
         same =
             rw f at
-            (sym (accepted_here (state_at m s k) s k (event_at (state_at m s k) s k) h refl told.answer told.woken (sym e))
+            (sym
+            (accepted_here (state_at m s k) s k (event_at (state_at m s k) s k) h refl told.answer told.woken (sym e))
             ∙ a.same);
       })
 

@@ -13,7 +13,7 @@ use Rattle.state.specs.declared.answer.Refusal.{Refusal}
 use Rattle.lock.specs.Event.{event_of}
 use Rattle.schedule.specs.File.{event_width}
 use Rattle.schedule.specs.Replay.{event_at}
-use Rattle.schedule.specs.ReplayLaws.{bytes_read, event_read}
+use Rattle.schedule.specs.ReplayLaws.{bytes_read, chunk_read}
 use Rattle.schedule.specs.Cursor.{reached, moved_to, moved_by, moved_of, seen_of}
 use Rattle.schedule.specs.declared.cursor.Cursor.{Cursor}
 use Rattle.schedule.specs.declared.cursor.Moved.{Moved}
@@ -51,11 +51,11 @@ module _ (c : Cursor) (s : List ℕ) {bytes : List ℕ} {o : Outcome}
 
     pub read_refused : (refusal : Refusal) → o.reply ≡ Err refusal → read c bytes ≡ moved_of c s
     read_refused refusal r =
-        ap (read c) (bytes_read s c.at h p) ∙ sym (moved_refused c s o h (event_read s c.at h p c.machine e) refusal r)
+        ap (read c) (bytes_read s c.at h p) ∙ sym (moved_refused c s o h (chunk_read s c.at h p c.machine e) refusal r)
 
     pub read_accepted : (answer : Answer) (woken : Option ThreadNumber)
         → o.reply ≡ accepted_with answer woken
         → read (record { machine = o.machine; at = c.at + 1 }) bytes ≡ moved_of c s
     read_accepted answer woken r =
         ap (read (record { machine = o.machine; at = c.at + 1 })) (bytes_read s c.at h p)
-        ∙ sym (moved_accepted c s o h (event_read s c.at h p c.machine e) answer woken r)
+        ∙ sym (moved_accepted c s o h (chunk_read s c.at h p c.machine e) answer woken r)

@@ -15,7 +15,7 @@ use Rattle.state.specs.declared.answer.Answer.{Answer}
 use Rattle.state.specs.declared.answer.Refusal.{Refusal}
 use Rattle.lock.specs.Event.{event_of}
 use Rattle.schedule.specs.File.{event_width}
-use Rattle.schedule.specs.Replay.{code_at, event_at, stopped_of, after, goes_on, replay_of}
+use Rattle.schedule.specs.Replay.{code_at, thread_at, event_at, stopped_of, after, goes_on, replay_of}
 use Rattle.schedule.specs.declared.replay.Replayed.{Replayed}
 
 pub after_zero : (r : Replayed Refusal) → after 0 r ≡ r
@@ -82,6 +82,14 @@ module _ (m : Machine) (s : List ℕ) (k : ℕ) where
         (by_outcome ∙ ap (λ (x : Reply). goes_on m x (replay_of o.machine (drop (event_width * (k + 1)) s))) r)
         ∙ after_after k 1 (replay_of o.machine (drop (event_width * (k + 1)) s))
 
+-- the outcome of an event on the bytes that were read
+pub event_read : (m : Machine) (s : List ℕ) (k : ℕ) {o : Outcome} {code : ℕ} {t : ThreadNumber}
+    → code ≡ code_at s k
+    → t ≡ thread_at s k
+    → o ≡ event_of m code t
+    → o ≡ event_at m s k
+event_read m s k p q e = e ∙ rw (p, q)
+
 -- an event of those that follow one another, two bytes each
 chunk_at : (n k : ℕ) (s : List ℕ) → k < n
     → get_or (first_chunks event_width n s) k [] ≡ take event_width (drop (event_width * k) s)
@@ -101,7 +109,7 @@ module _ (s : List ℕ) (k : ℕ) {bytes : List ℕ}
     bytes_read = p ∙ chunk_at (length s / event_width) k s h ∙ ap (take event_width) (drop_event s k h)
 
     -- its outcome
-    pub event_read : (m : Machine) {o : Outcome}
+    pub chunk_read : (m : Machine) {o : Outcome}
         → o ≡ event_of m (get_or bytes 0 0) (thread (get_or bytes 1 0))
         → o ≡ event_at m s k
-    event_read m e = e ∙ ap (λ (l : List ℕ). event_of m (get_or l 0 0) (thread (get_or l 1 0))) bytes_read
+    chunk_read m e = e ∙ ap (λ (l : List ℕ). event_of m (get_or l 0 0) (thread (get_or l 1 0))) bytes_read

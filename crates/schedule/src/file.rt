@@ -33,6 +33,7 @@ pub struct Head {
 }
 
 impl FileRefusal {
+    // As `Refusal::number`.
     pub fn number(self) -> u8
         ensures { result ≡ file_number self }
     {

@@ -32,7 +32,7 @@ fn prev_of(m: Machine, at: NodeNumber) -> NodeNumber
         .map_or(NodeNumber::NONE, |n| n.prev)
 }
 
-// Is a node one of the waiters? Refused, there are none.
+// Is a node one of the waiters? Refused, there are none. (By `is_ok_and` the check found no proof.)
 pub(crate) fn listed(waiters: Result<Waiters, Refusal>, n: NodeNumber) -> bool
     ensures { result ≡ among waiters n }
 {

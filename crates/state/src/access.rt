@@ -35,6 +35,7 @@ pub struct Access {
     pub location: Location,
 }
 
+// Short names, so that a row of the table over places says its kind and its location in two words.
 fn at_word(kind: Kind) -> Access
     ensures { result ≡ at_word_of kind }
 {

@@ -35,6 +35,7 @@ pub struct Accepted {
 pub type Reply = Result<Accepted, Refusal>;
 
 impl Refusal {
+    // Public, with document 01's number in its clause, so no From.
     pub fn number(self) -> u8
         ensures { result ≡ refusal_number self }
     {

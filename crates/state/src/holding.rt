@@ -29,7 +29,8 @@ impl Holding {
         }
     }
 
-    // A grant, a release and a downgrade set the record whatever stood there: only a begin judges it.
+    // A grant, a release and a downgrade set the record whatever stood there: only a begin judges it. One function for
+    // each, since the rules name each by its definition.
     pub fn granted_read(self) -> Holding
         ensures { result ≡ granted_read self }
     {

@@ -18,6 +18,7 @@ pub struct Thread {
     pub holding: Holding,
 }
 
+// Arrays by number: the word links to nodes by number, and the definitions speak of the two arrays.
 #[derive(Clone, Copy)]
 pub struct Machine {
     pub count: u8,
@@ -26,7 +27,8 @@ pub struct Machine {
     pub threads: [Thread; THREADS],
 }
 
-// A machine asked for, and whether its count was one of a machine.
+// A machine asked for, and whether its count was one of a machine. No Result: `fresh`'s clause and `fresh_of` hand a
+// machine of one thread beside the refusal.
 #[derive(Clone, Copy)]
 pub struct Fresh {
     pub machine: Machine,
@@ -41,6 +43,7 @@ pub struct Outcome {
 }
 
 impl Thread {
+    // Not derived: no clause says a derived Default's value.
     pub fn blank() -> Thread
         ensures { result ≡ blank_thread }
     {

@@ -15,6 +15,7 @@ pub struct Node {
 }
 
 impl Node {
+    // Not derived: no clause says a derived Default's value.
     pub fn blank() -> Node
         ensures { result ≡ blank_node }
     {
@@ -43,6 +44,7 @@ impl Node {
         }
     }
 
+    // A field for each, by the definition that the rules name.
     pub fn with_next(self, next: Word) -> Node
         ensures { result ≡ with_next self next }
     {

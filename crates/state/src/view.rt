@@ -10,7 +10,7 @@ use crate::node::Node;
 use crate::place::{Place, Walk, Who};
 use word::{ThreadNumber, Word};
 
-// The writer mark of the tail that a walk found, where that tail is a node of the machine.
+// The writer mark of the tail that a walk found, where that tail is a node of the machine: `mark_by`'s three cases.
 #[derive(Clone, Copy)]
 pub enum Mark {
     Missing,
@@ -122,6 +122,7 @@ fn changed(
     })
 }
 
+// What a step did, each by its definition, which the rules name.
 impl View {
     // A weak compare's outcome: it succeeds unless it is made to fail or the word is another.
     pub fn agrees(self, seen: Word) -> bool

@@ -13,6 +13,7 @@ use schedule::{Moved, Seen};
 use state::{Machine, Refusal};
 use word::NodeNumber;
 
+// A waiter is a node; of none the definition has no text.
 fn put_node(line: Line, n: NodeNumber) -> Line
     ensures { result ≡ put_all line (node_text n) }
 {

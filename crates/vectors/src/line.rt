@@ -21,18 +21,10 @@ fn located(location: Location) -> [u64; 2] {
 impl Page {
     fn reply(&mut self, reply: Reply) {
         let _ = match reply {
-            Ok(
-                Accepted {
-                    answer,
-                    woken: None,
-                },
-            ) => write!(self, "{} -", answer.text()),
-            Ok(
-                Accepted {
-                    answer,
-                    woken: Some(t),
-                },
-            ) => write!(self, "{} {}", answer.text(), t.0),
+            Ok(Accepted { answer, woken }) => match woken {
+                None => write!(self, "{} -", answer.text()),
+                Some(t) => write!(self, "{} {}", answer.text(), t.0),
+            },
             Err(refusal) => write!(self, "refused {}", refusal.number()),
         };
     }

@@ -32,18 +32,16 @@ enum Command {
     Quiet,
     // An event whose line is printed with what the places carry; the event is not kept.
     Try,
-    Nothing,
 }
 
-impl From<u8> for Command {
-    fn from(byte: u8) -> Command {
-        match byte {
-            0 => Command::Fresh,
-            1 => Command::Show,
-            2 => Command::Quiet,
-            3 => Command::Try,
-            _ => Command::Nothing,
-        }
+// A byte that is no command asks nothing.
+fn command_of(byte: u8) -> Option<Command> {
+    match byte {
+        0 => Some(Command::Fresh),
+        1 => Some(Command::Show),
+        2 => Some(Command::Quiet),
+        3 => Some(Command::Try),
+        _ => None,
     }
 }
 
@@ -70,13 +68,10 @@ impl<R: Print> Port<'_, R> {
     }
 
     fn obey(&mut self, [command, code, thread]: [u8; WIDTH]) {
-        let command = Command::from(command);
-        match command {
-            Command::Fresh => self.machine = Machine::fresh(code).machine,
-            Command::Show | Command::Quiet | Command::Try => {
-                self.event(command, code, ThreadNumber(thread));
-            }
-            Command::Nothing => (),
+        match command_of(command) {
+            Some(Command::Fresh) => self.machine = Machine::fresh(code).machine,
+            Some(command) => self.event(command, code, ThreadNumber(thread)),
+            None => (),
         }
     }
 
@@ -96,6 +91,7 @@ fn main(rt: HostRuntime) {
         machine: Machine::fresh(1).machine,
         page: Page::new(),
     };
+    // more blocks than can come: a loop is shown to end
     for _ in 0..u64::MAX {
         let mut block = ArrayVec::<u8, BLOCK>::new();
         // What came before the end, or before a read that failed, is answered.

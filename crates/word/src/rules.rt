@@ -14,7 +14,7 @@ pub const ONE_WRITER: Word = Word(1);
 pub const ONE_READER: Word = Word(17);
 
 // What read_unlock's weak compare writes; Contended where the count stands in the oldest waiter, Refused where the word
-// counts no reader.
+// counts no reader. Three answers, so neither an Option nor a Result.
 #[derive(Clone, Copy)]
 pub enum ReadUnlocked {
     To(Word),

@@ -3,7 +3,7 @@
 use Rattle.std.proofs.Common.{sym, ◌∙◌, arith, [], Ok, ◌/◌, ◌<◌, ◌≡◌, ap, get_or, length}
 use Rattle.schedule.specs.File.{event_width}
 use Rattle.schedule.specs.Replay.{stopped_of}
-use Rattle.schedule.specs.ReplayLaws.{ended_here, refused_here, accepted_here, event_read}
+use Rattle.schedule.specs.ReplayLaws.{ended_here, refused_here, accepted_here, chunk_read}
 use Rattle.schedule.proofs.replay.replay.Goals as goal
 
 pub returns-in-Err : goal.returns-in-Err
@@ -11,7 +11,7 @@ returns-in-Err c =
     let l = c.loop-run in
     let s = c.args.s.now in
     let h : l.run < length s / event_width = omega arith in
-    let e = event_read s l.run h (ap (λ b. get_or b l.run []) c.as_chunks.ensures.front) l.machine c.event-o.ensures in
+    let e = chunk_read s l.run h (ap (λ b. get_or b l.run []) c.as_chunks.ensures.front) l.machine c.event-o.ensures in
     sym (refused_here l.machine s l.run _ h e c.in-Err.refusal c.in-Err.is) ∙ l.invariant
 
 pub loop-run-preserved : goal.loop-run-preserved
@@ -19,7 +19,7 @@ loop-run-preserved c =
     let l = c.loop-run in
     let s = c.args.s.now in
     let h : l.run < length s / event_width = omega arith in
-    let e = event_read s l.run h (ap (λ b. get_or b l.run []) c.as_chunks.ensures.front) l.machine c.event-o.ensures in
+    let e = chunk_read s l.run h (ap (λ b. get_or b l.run []) c.as_chunks.ensures.front) l.machine c.event-o.ensures in
     let t = c.in_default in
     sym (accepted_here l.machine s l.run _ h e t.field-0.answer t.field-0.woken t.is) ∙ l.invariant
 
