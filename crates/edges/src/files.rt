@@ -1,4 +1,6 @@
 // Schedule files on both sides of each limit: the number of the refusal, 0 where the file is accepted.
+ghost use Rattle.std.specs.Prelude.{◌≤◌, ◌<◌, ◌^◌};
+
 use crate::sheet::Sheet;
 use schedule::file::check;
 
@@ -35,27 +37,27 @@ fn number(s: &[u8]) -> u64 {
     }
 }
 
+// The same of a file of N bytes, which are 0 after its head.
+fn number_of<const N: usize>(head: [u8; 6]) -> u64
+    requires low { 6 ≤ N }
+    requires high { N < 2 ^ 32 }
+{
+    let mut file = [0u8; N];
+    file[..6].copy_from_slice(&head);
+    number(&file)
+}
+
 impl<R: Print + Eprint + AllocGlobal> Sheet<'_, R> {
-    // 60,001 is 0xEA61: the bytes after the length of 30,000 events.
-    fn most_events(&mut self) {
-        let mut file = [0u8; 60006];
-        file[..6].copy_from_slice(&[1, 0, 0, 0xEA, 0x61, 8]);
-        self.tell("30,000 events", 0, number(&file));
-    }
-
-    fn too_many_events(&mut self) {
-        let mut file = [0u8; 60008];
-        file[..6].copy_from_slice(&[1, 0, 0, 0xEA, 0x63, 8]);
-        self.tell("30,001 events", 14, number(&file));
-        file[5] = 9;
-        self.tell("30,001 events of 9 threads", 13, number(&file));
-    }
-
     pub(crate) fn files(&mut self) {
         for (what, expected, file) in FILES {
             self.tell(what, expected, number(file));
         }
-        self.most_events();
-        self.too_many_events();
+        // 60,001 is 0xEA61: the bytes after the length of 30,000 events.
+        let most = number_of::<60006>([1, 0, 0, 0xEA, 0x61, 8]);
+        self.tell("30,000 events", 0, most);
+        let too_many = number_of::<60008>([1, 0, 0, 0xEA, 0x63, 8]);
+        self.tell("30,001 events", 14, too_many);
+        let of_nine = number_of::<60008>([1, 0, 0, 0xEA, 0x63, 9]);
+        self.tell("30,001 events of 9 threads", 13, of_nine);
     }
 }

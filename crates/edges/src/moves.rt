@@ -6,6 +6,7 @@ use lock::event::event;
 use state::{Machine, Refusal, Reply};
 use word::{NodeNumber, ThreadNumber};
 
+// The codes once more, apart from lock's `call_of`, which is tried with them.
 #[derive(Clone, Copy)]
 pub(crate) enum Call {
     Read = 0,

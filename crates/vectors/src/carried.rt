@@ -145,13 +145,15 @@ pub(crate) fn beside(place: Place) -> u64 {
 
 // Is the thread's own node filled: does it go to register it, or wait on it?
 pub(crate) fn is_filled(place: Place) -> bool {
-    match place {
-        Place::RegisterCas { .. } | Place::CompletedLoad { .. } | Place::Park { .. } => true,
-        _ => matches!(
-            walk(place),
-            Some(Walk::Queue {
-                who: Who::Waiter { .. }
-            })
-        ),
-    }
+    let waits = matches!(
+        place,
+        Place::RegisterCas { .. } | Place::CompletedLoad { .. } | Place::Park { .. }
+    );
+    let walks_as_waiter = matches!(
+        walk(place),
+        Some(Walk::Queue {
+            who: Who::Waiter { .. }
+        })
+    );
+    waits || walks_as_waiter
 }
