@@ -67,9 +67,6 @@ module _ (m : Machine) where
 
   -- the nodes so far, and a visit of the next
   module _ (rest : ℕ → Listed) (nodes : List NodeNumber) (at : NodeNumber) where
-    abbrev left : ℕ
-    left = m.count - length nodes
-
     refused : CannotStand m at nodes → lost ≡ prepend_all nodes (visit rest (m.count - length nodes) m at)
     unfolding visit
     refused (inl spent) =
