@@ -5,6 +5,7 @@
 --     waiters_first, waiters_linked    the first is the word's node, each other the one that the next of the node
 --                                      before links to
 --     waiters_others                   past its length its array has no node
+--     followed_most                    from any node there are at most as many as the count
 --     waiters_some, waiters_met        of a queued word: it has a node, and ends on the first tail that it met
 --     waiters_refused                  refused, it is 8
 --     reads_most                       n threads have at most n reads
@@ -156,6 +157,12 @@ set_trail (suc left) m at =
     (pick_both (Holds (Trail m left next)) (is_none tail) (to_set left m next) (to_tail left m tail at)
     (λ _. set_trail left m next)
     (λ _. tail_trail left m tail at))
+
+-- following next lists at most as many nodes as the count
+pub followed_most : (m : Machine) (head : NodeNumber) (ns : List NodeNumber)
+    → followed_of m head ≡ listed ns
+    → length ns ≤ m.count
+followed_most m head ns e = trail_most (subst (Holds (Trail m m.count head)) e (set_trail m.count m head))
 
 abbrev MetIn : Machine → List NodeNumber → Type 0
 MetIn m ns = Met m ns (length ns)
