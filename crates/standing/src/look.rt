@@ -32,8 +32,8 @@ fn prev_of(m: Machine, at: NodeNumber) -> NodeNumber
         .map_or(NodeNumber::NONE, |n| n.prev)
 }
 
-// Is a node one of the waiters? None is where their array has room, and refused it is as where nobody waits.
-// (By `is_ok_and` the check found no proof.)
+// Is a node one of the waiters? Node none is, where their array has room or the listing is refused. (By `is_ok_and`
+// the check found no proof.)
 pub(crate) fn listed(waiters: Result<Waiters, Refusal>, n: NodeNumber) -> bool
     ensures { result ≡ among waiters n }
 {

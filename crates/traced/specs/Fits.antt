@@ -78,7 +78,7 @@ module _ (ns : List NodeNumber) (small : (k : ℕ) → (get_or ns k none).0 < 10
       omega (arith, nodes_short k, node_short k, length-append (nodes_text k ns) (node_text (get_or ns k none)))
 
 module _ (m : Machine) where
-  -- a count is below ten
+  -- a count is below ten, and so each node of a listing; past its length its array has none
   node_small : (w : Waiters)
       → waiters_of m ≡ Ok w
       → m.count ≤ thread_limit
