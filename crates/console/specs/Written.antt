@@ -27,7 +27,7 @@ written_all size at h = by (dec_lt at size)
 
 -- what is laid on a page of one line is all written
 module _ (line : Line) where
-  pub line_within : line_written line ≤ line_width
+  line_within : line_written line ≤ line_width
   line_within =
       let n = (ended_of line).length in
       pick_both (λ (k : ℕ). k ≤ line_width) (fits_of line_width 0 n) (0 + n) 0
