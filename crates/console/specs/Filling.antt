@@ -4,7 +4,8 @@
 -- Assumes nothing.
 use Rattle.std.specs.Prelude.{ℕ, ◌+◌, ◌-◌, ◌<◌, ◌≤◌, true, false, List, ◌++◌, ◌≡◌, refl, is_some, leb, length, take}
 use Rattle.std.proofs.lemmas.Bool.{false≢true}
-use Rattle.std.proofs.Common.{append_assoc, sym, ap, subst, ◌∙◌, arith, leb-true}
+use Rattle.std.proofs.Common.{append_assoc, sym, ap, subst, ◌∙◌, arith, leb-true, le-leb}
+use Rattle.std.proofs.Math.Decide.{dec_lt}
 use Rattle.word.specs.Cases.{pick_first}
 use Rattle.schedule.specs.Cursor.{moved_of}
 use Rattle.schedule.specs.declared.cursor.Cursor.{Cursor}
@@ -59,6 +60,17 @@ pub has_room_lem : (size at : ℕ) → has_room size at ≡ true → at + line_w
 has_room_lem size at e =
     let both = pick_first (leb at size) (leb line_width (size - at)) false true false≢true e in
     omega (arith, leb-true at size both.0, leb-true line_width (size - at) both.1)
+
+-- where there is none on a page that a line fits, something is laid
+pub no_room : (size at : ℕ) → has_room size at ≡ false → line_width ≤ size → 0 < at
+no_room size at e h = by (dec_lt 0 at)
+  where
+    by : Dec (0 < at) → 0 < at
+    by (yes some) = some
+    by (no none) =
+        let start = le-leb at size (omega arith) in
+        let rest = le-leb line_width (size - at) (omega arith) in
+        absurd (false≢true (sym e ∙ simp (start, rest)))
 
 -- ── what the loop keeps ──
 

@@ -2,9 +2,9 @@
 -- In order: at most a line's width for each event and one; what is kept; one page more, where the replay is over.
 -- Not here: how one page is filled (Filling.antt); what a run or a file comes to (Printing.antt).
 -- Assumes nothing.
-use Rattle.std.specs.Prelude.{ℕ, ◌+◌, ◌*◌, ◌/◌, ◌<◌, ◌≤◌, List, ◌≡◌, length, take, drop, Option, Result}
+use Rattle.std.specs.Prelude.{ℕ, ◌+◌, ◌-◌, ◌*◌, ◌/◌, ◌<◌, ◌≤◌, List, ◌≡◌, length, take, drop, Option, Result}
 use Rattle.std.proofs.Common.{ap, subst, ◌∙◌, arith, length-append, length-drop, length-take-le}
-use Rattle.std.specs.declared.ops.ControlFlow.TheVariants.{Break}
+use Rattle.std.specs.declared.ops.ControlFlow.TheVariants.{Continue, Break}
 use Rattle.word.specs.declared.number.ThreadNumber.{ThreadNumber}
 use Rattle.state.specs.declared.answer.Answer.{Answer}
 use Rattle.state.specs.declared.machine.Machine.{Machine}
@@ -16,7 +16,7 @@ use Rattle.print.specs.Shown.{event_text_short}
 use Rattle.print.specs.WholeLaws.{bytes_most}
 use Rattle.traced.specs.Fits.{trace_line_short}
 use Rattle.console.specs.Output.{written_of}
-use Rattle.console.specs.Pages.{line_for, to_print, to_run, print_by, run_by, Fills, Going}
+use Rattle.console.specs.Pages.{line_for, to_print, to_run, print_by, run_by, Fills, Further, Going}
 use Rattle.console.specs.Written.{written_all}
 use Rattle.console.specs.declared.pages.Filled.{Filled}
 use Rattle.console.specs.declared.pages.Lines.{Lines}
@@ -71,6 +71,13 @@ module _
 
     pub paging_most : bytes + more ≤ line_width * (length s / event_width + 1)
     paging_most = omega (arith, sum, print_most which from s)
+
+    -- fewer events are left
+    pub paging_less :
+        r.going ≡ Continue tt → length s / event_width - r.cursor.at < length s / event_width - c.at
+    paging_less on =
+        let further = subst (λ (g : Going). Further g c r.cursor s) on fills.further in
+        omega (arith, further.0, further.1)
 
     pub paging_over :
         (stop : Result (Unit {0}) FileStop) → r.going ≡ Break stop

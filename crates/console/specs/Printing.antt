@@ -1,7 +1,7 @@
--- What the pages come to: of a run of events, and of an accepted file.
+-- What the pages come to: of a run of events, and of a file, accepted or refused.
 -- Not here: page after page (Paging.antt); the answers (Runs.antt).
 -- Assumes nothing.
-use Rattle.std.specs.Prelude.{ℕ, ◌+◌, ◌*◌, ◌≤◌, List, Result, Ok, ◌≡◌, length, drop}
+use Rattle.std.specs.Prelude.{ℕ, ◌+◌, ◌*◌, ◌≤◌, List, Result, Ok, Err, ◌≡◌, length, drop}
 use Rattle.std.proofs.Common.{append-nil, sym, ap, subst, ◌∙◌, arith, length-append, length-drop}
 use Rattle.std.specs.declared.ops.ControlFlow.TheVariants.{Break}
 use Rattle.state.specs.Machine.{fresh_of}
@@ -14,13 +14,15 @@ use Rattle.schedule.specs.Replay.{replay_of}
 use Rattle.schedule.specs.ReplayLaws.{after_zero}
 use Rattle.schedule.specs.Whole.{file_ran_of}
 use Rattle.schedule.specs.declared.cursor.Cursor.{Cursor}
+use Rattle.schedule.specs.declared.file.FileRefusal.{FileRefusal}
 use Rattle.schedule.specs.declared.file.Head.{Head}
 use Rattle.schedule.specs.declared.replay.Replayed.{Replayed}
 use Rattle.schedule.specs.declared.whole.FileStop.{FileStop}
 use Rattle.print.specs.Whole.{event_lines, bytes_of}
 use Rattle.print.specs.WholeLaws.{bytes_append}
 use Rattle.console.specs.Pages.{line_for, to_print, to_run, run_by}
-use Rattle.console.specs.Runs.{end_lines, ran_bytes, ran_printed, file_bytes, file_printed}
+use Rattle.console.specs.Runs.{end_lines, ran_bytes, ran_printed, refused_bytes, refused_printed}
+use Rattle.console.specs.Runs.{file_bytes, file_printed}
 use Rattle.console.specs.declared.pages.Lines.{Lines}
 use Rattle.console.specs.declared.pages.Lines.TheVariants.{Plain, Traced}
 use Rattle.console.specs.declared.runs.Printed.{Printed}
@@ -46,6 +48,16 @@ module _ (which : Lines) (m : Machine) (s : List ℕ) where
       let all = length-append lines (bytes_of (end_lines which (replay_of m s).machine)) in
       let size : bytes + more ≡ length (ran_bytes which m s) = omega (arith, p, last, all) in
       rw (replayed, size)
+
+-- ── a refused file ──
+
+module _ (s : List ℕ) (refusal : FileRefusal) (e : checked_of s ≡ Err refusal) where
+  refused_bytes_lem : (which : Lines) → refused_bytes refusal ≡ file_bytes which s
+  refused_bytes_lem Traced = rw e
+  refused_bytes_lem Plain = rw e
+
+  pub file_refused : (which : Lines) → refused_printed refusal ≡ file_printed which s
+  file_refused which = rw (← refused_bytes_lem which, e)
 
 -- ── an accepted file ──
 

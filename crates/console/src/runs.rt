@@ -151,7 +151,10 @@ fn received(
     match reading {
         Reading::Unreadable => 0,
         Reading::Full => too_long(rt).bytes,
-        Reading::Whole => file(rt, which, s).bytes,
+        Reading::Whole => match which {
+            Lines::Plain => replay(rt, s).bytes,
+            Lines::Traced => trace(rt, s).bytes,
+        },
     }
 }
 

@@ -1,6 +1,6 @@
 -- The contracts of crate listing: each public function's result is determined, and wrong answers that its contract
 -- rules out. The waiter listing, then the reader count. Assumes nothing.
-use Rattle.std.specs.Prelude.{ℕ, refl, [], ◌∷◌, length, get_or, Result, Ok, Err}
+use Rattle.std.specs.Prelude.{ℕ, refl, [], ◌∷◌, get_or, Result, Ok, Err}
 use Rattle.word.specs.Flags.{word}
 use Rattle.word.specs.Number.{node, none}
 use Rattle.word.specs.declared.number.NodeNumber.{NodeNumber}
@@ -10,8 +10,9 @@ use Rattle.state.specs.declared.holding.Holding.TheVariants as Holds
 use Rattle.state.specs.declared.machine.Machine.{Machine}
 use Rattle.state.specs.declared.node.Node.{Node}
 use Rattle.state.specs.declared.place.Place.TheVariants as At
-use Rattle.listing.specs.Listing.{listed, Waiters, waiters_by, to_tail, to_set}
+use Rattle.listing.specs.Listing.{listed, padded, waiters_by, to_tail, to_set}
 use Rattle.listing.specs.ReaderCount.{report_of, reads_below}
+use Rattle.listing.specs.declared.listing.Waiters.{Waiters}
 use Rattle.listing.specs.declared.reader_count.Readers.{Readers}
 use Rattle.listing.specs.declared.reader_count.Sits.{Sits}
 use Rattle.listing.specs.declared.reader_count.Sits.TheVariants as Sitting
@@ -34,11 +35,11 @@ abbrev ring : Machine
 ring = machine_of 2 35 (waits 32 2 ∷ waits 16 0 ∷ []) []
 
 abbrev listed_at : ℕ → Result Waiters Refusal → ℕ
-listed_at k (Ok w) = (get_or w.items k none).0
+listed_at k (Ok w) = (get_or w.nodes k none).0
 listed_at k (Err r) = 0
 
 abbrev how_many : Result Waiters Refusal → ℕ
-how_many (Ok w) = length w.items
+how_many (Ok w) = w.length
 how_many (Err r) = 0
 
 -- ── the waiter listing ──
@@ -62,6 +63,12 @@ listing_visits_one_too_many = apart_by how_many refl
 pub listing_of_an_unqueued_word : Allows listing.Post (queue 17 & tt) (waiters_by (listed (node 1 ∷ []))) → ⊥
 unfolding to_set to_tail
 listing_of_an_unqueued_word = apart_by how_many refl
+
+-- two waiters, and a third node behind them
+pub listing_keeps_a_node_past_its_length :
+    Allows listing.Post (queue 55 & tt) (Ok (record { nodes = padded (node 3 ∷ node 2 ∷ node 1 ∷ []); length = 2 })) → ⊥
+unfolding to_set to_tail
+listing_keeps_a_node_past_its_length = apart_by (listed_at 2) refl
 
 pub from_head_determined : (m : Machine) (head : NodeNumber) → Determined (Allows from_head.Post (m & head & tt))
 from_head_determined m head = determined

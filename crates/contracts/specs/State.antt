@@ -1,18 +1,15 @@
--- The contracts of crate state: each public function's result is determined (of an answer's text the bytes), and two or
--- three wrong answers that its contract rules out. In the order of its files: access, answer, holding, machine, node,
--- view. Assumes nothing.
-use Rattle.std.specs.Prelude.{ℕ, Bool, true, false, ◌≡◌, refl, List, [], Err, Ok, Option, Some, None, length}
-use Rattle.std.specs.Borrow.{Bor}
-use contract.Lifetimes.{Lfts}
+-- The contracts of crate state: each public function's result is determined, and two or three wrong answers that its
+-- contract rules out. In the order of its files: access, answer, holding, machine, node, view. Assumes nothing.
+use Rattle.std.specs.Prelude.{ℕ, Bool, true, false, refl, [], Err, Ok, Option, Some, None}
 use Rattle.std.proofs.lemmas.Bool.{false≢true}
-use Rattle.std.proofs.Common.{sym, ap}
+use Rattle.std.proofs.Common.{sym}
 use Rattle.word.specs.Flags.{word}
 use Rattle.word.specs.Number.{node, thread}
 use Rattle.word.specs.declared.flags.Word.{Word}
 use Rattle.word.specs.declared.number.NodeNumber.{NodeNumber}
 use Rattle.word.specs.declared.number.ThreadNumber.{ThreadNumber}
 use Rattle.state.specs.Access.{access_of, at_word_of, load_of, store_of, touched_of}
-use Rattle.state.specs.Answer.{answer_word, five_bytes, answer_text}
+use Rattle.state.specs.Answer.{answer_text}
 use Rattle.state.specs.Machine.{made_of, refused_of}
 use Rattle.state.specs.Node.{blank_node, filled_of, with_completed, with_next, with_prev, with_tail}
 use Rattle.state.specs.View.{at, end, stays, writes, links, subtracts, completes, parks}
@@ -68,8 +65,7 @@ use Rattle.state.proofs.view.View.parks.Reads as parks_thread
 use Rattle.state.proofs.view.View.stays.Reads as stays_put
 use Rattle.state.proofs.view.View.subtracts.Reads as subtracts_count
 use Rattle.state.proofs.view.View.writes.Reads as writes_word
-use Rattle.contracts.specs.Allowed.{Determined, DeterminedBytes, ◌&◌, Allows, AllowsLent, slice}
-use Rattle.contracts.specs.Allowed.{apart_by, apart_in, clash, determined, determined_bytes}
+use Rattle.contracts.specs.Allowed.{Determined, ◌&◌, Allows, apart_by, apart_in, clash, determined}
 use Rattle.contracts.specs.Examples.{failing, holds, machine_of, seeing, thread_of, tokened}
 use Rattle.contracts.specs.Looks.{answer_after, holding_after, next_after, node_number, owner_number, place_after}
 use Rattle.contracts.specs.Looks.{tail_after, token_after, woken_by, word_after}
@@ -124,20 +120,14 @@ number_of_cannot_fail_is_six e = clash (cc)
 pub number_from_zero : Allows number.Post (UnknownCode & tt) 0 → ⊥
 number_from_zero e = clash (cc)
 
-pub text_determined : (κs : Lfts 1) (a : Answer) → DeterminedBytes (AllowsLent text.Post κs (a & tt))
-text_determined κs a = determined_bytes
+pub text_determined : (a : Answer) → Determined (Allows text.Post (a & tt))
+text_determined a = determined
 
-pub text_of_no_is_yes : (κs : Lfts 1) → AllowsLent text.Post κs (No & tt) (slice (answer_word Yes)) → ⊥
-text_of_no_is_yes κs = apart_by length refl
+pub text_of_no_is_yes : Allows text.Post (No & tt) (answer_text Yes) → ⊥
+text_of_no_is_yes = apart_by (λ t. t.length) refl
 
-pub text_with_its_zeros : (κs : Lfts 1) → AllowsLent text.Post κs (Done & tt) (slice ((answer_text Done).bytes)) → ⊥
-text_with_its_zeros κs = apart_by length refl
-
--- so it tells of the same word in five bytes too
-pub text_in_five_bytes :
-    (κs : Lfts 1) (a : Answer) (s : Bor (List ℕ)) → AllowsLent text.Post κs (a & tt) s
-    → five_bytes s.now ≡ answer_text a
-text_in_five_bytes κs a s e = ap five_bytes e
+pub text_with_its_zeros : Allows text.Post (Done & tt) (record { bytes = (answer_text Done).bytes; length = 5 }) → ⊥
+text_with_its_zeros = apart_by (λ t. t.length) refl
 
 -- ── holding ──
 

@@ -3,7 +3,7 @@ use listing::Waiters;
 use listing::listing::listing;
 use listing::reader_count::reader_count;
 use lock::event::event;
-use state::{Machine, Refusal, Reply};
+use state::{Machine, Refusal, Reply, THREADS};
 use word::{NodeNumber, ThreadNumber};
 
 // The codes once more, apart from lock's `call_of`, which is tried with them.
@@ -99,20 +99,23 @@ impl Facts {
     }
 
     // Refused, there are none.
-    fn listed(&self) -> Waiters {
-        listing(self.machine).unwrap_or(Waiters::new())
+    fn listed(&self) -> Option<Waiters> {
+        listing(self.machine).ok()
     }
 
     pub(crate) fn waiters(&self) -> u64 {
-        self.listed().len() as u64
+        self.listed().map_or(0, |w| w.length as u64)
     }
 
+    // Where nobody waits the array's first is none.
     pub(crate) fn newest(&self) -> u64 {
-        self.listed().first().map_or(0, |n| n.0)
+        self.listed().map_or(0, |w| w.nodes[0].0)
     }
 
     fn oldest_node(&self) -> NodeNumber {
-        self.listed().last().copied().unwrap_or(NodeNumber::NONE)
+        self.listed()
+            .and_then(|w| w.nodes[..w.length.min(THREADS)].last().copied())
+            .unwrap_or(NodeNumber::NONE)
     }
 
     pub(crate) fn oldest(&self) -> u64 {

@@ -4,15 +4,18 @@
 --     waiters_most, waiters_within     it has at most as many nodes as the count, each in 1..count
 --     waiters_first, waiters_linked    the first is the word's node, each other the one that the next of the node
 --                                      before links to
---     waiters_others                   past its end there is no node
+--     waiters_others                   past its length its array has no node
+--     followed_most                    from any node there are at most as many as the count
 --     waiters_some, waiters_met        of a queued word: it has a node, and ends on the first tail that it met
 --     waiters_refused                  refused, it is 8
 --     reads_most                       n threads have at most n reads
 -- Assumes nothing.
 use Rattle.std.specs.Prelude.{ℕ, zero, suc, ◌+◌, ◌-◌, ◌≤◌, ◌<◌, true, false, List, [], ◌∷◌, ◌≡◌, refl, ltb, leb, eqb}
-use Rattle.std.specs.Prelude.{length, get_or, take, Ok, Err}
+use Rattle.std.specs.Prelude.{length, get_or, take, replicate, Ok, Err}
 use Rattle.std.proofs.Common.{sym, ap, ◌∙◌, subst, le_of_suc-le-suc, add-one, arith, ltb-false, leb-true, eqb-true}
-use Rattle.std.proofs.lemmas.List.{get_or-take, get_or_past}
+use Rattle.std.proofs.Common.{get_or-append-add}
+use Rattle.std.proofs.Math.ListN.{get_or-append}
+use Rattle.std.proofs.lemmas.List.{get_or-take}
 use Rattle.word.specs.Base.{pick}
 use Rattle.word.specs.Cases.{pick_both, pick_second}
 use Rattle.word.specs.Number.{node, none, is_none}
@@ -26,8 +29,9 @@ use Rattle.state.specs.declared.holding.Holding.{Holding}
 use Rattle.state.specs.declared.holding.Holding.TheVariants.{Nothing, Read, Write}
 use Rattle.state.specs.declared.machine.Machine.{Machine}
 use Rattle.listing.specs.Listing.{Listed, lost, listed, prepend, within, node_by, link_of, stand, to_tail, to_set}
-use Rattle.listing.specs.Listing.{followed_of, listed_of, Waiters, waiters_by, waiters_of}
+use Rattle.listing.specs.Listing.{followed_of, listed_of, padded, array_of, waiters_by, waiters_of}
 use Rattle.listing.specs.ReaderCount.{reads_below}
+use Rattle.listing.specs.declared.listing.Waiters.{Waiters}
 
 -- a number that passes for one in 1..most is one
 pub in_range : (n most : ℕ) → pick (ltb n 1) false (leb n most) ≡ true → (1 ≤ n) × (n ≤ most)
@@ -154,6 +158,12 @@ set_trail (suc left) m at =
     (λ _. set_trail left m next)
     (λ _. tail_trail left m tail at))
 
+-- following next lists at most as many nodes as the count
+pub followed_most : (m : Machine) (head : NodeNumber) (ns : List NodeNumber)
+    → followed_of m head ≡ listed ns
+    → length ns ≤ m.count
+followed_most m head ns e = trail_most (subst (Holds (Trail m m.count head)) e (set_trail m.count m head))
+
 abbrev MetIn : Machine → List NodeNumber → Type 0
 MetIn m ns = Met m ns (length ns)
 
@@ -202,6 +212,32 @@ set_met (suc left) m at =
     (λ set. mapped (Onto tail at) after (λ ns. met_here m at ns set) (to_tail left m tail at)
     (tail_onto left m tail at)))
 
+-- below the length an array's elements are the listing's nodes, and past it none
+pub kept_at : (ns : List NodeNumber) (k : ℕ) → k < length ns → get_or (padded ns) k none ≡ get_or ns k none
+kept_at ns k b = get_or-append ns (replicate (thread_limit - length ns) none) none k b
+
+blank_at : (n k : ℕ) → get_or (replicate n none) k none ≡ none
+blank_at zero k = refl
+blank_at (suc n) zero = refl
+blank_at (suc n) (suc k) = blank_at n k
+
+none_at : (ns : List NodeNumber) (k : ℕ) → length ns ≤ k → get_or (padded ns) k none ≡ none
+none_at ns k b =
+    let past : length ns + (k - length ns) ≡ k = omega arith in
+    ap (λ i. get_or (padded ns) i none) (sym past)
+    ∙ get_or-append-add ns (replicate (thread_limit - length ns) none) (k - length ns) none
+    ∙ blank_at (thread_limit - length ns) (k - length ns)
+
+met_padded : (m : Machine) (ns : List NodeNumber) → MetIn m ns → Met m (padded ns) (length ns)
+met_padded m ns met =
+    record {
+      at = met.at;
+      below = met.below;
+      before = λ k b. rw (kept_at ns k (omega arith)) (met.before k b);
+      set = rw (kept_at ns met.at met.below) met.set;
+      last = rw (kept_at ns met.at met.below, kept_at ns (length ns - 1) (omega arith)) met.last;
+    }
+
 module _ (m : Machine) where
   abbrev FromWord : List NodeNumber → Type 0
   FromWord = Trail m m.count (to_node m.word)
@@ -223,23 +259,23 @@ module _ (m : Machine) where
       (λ _. tt)
 
   -- a listing is lost, or its nodes are a trail from the word's
-  listed_cases : (P : List NodeNumber → Type 0)
-      → ((ns : List NodeNumber) → FromWord ns → P ns)
+  listed_cases : (P : Waiters → Type 0)
+      → ((ns : List NodeNumber) → FromWord ns → P (array_of ns))
       → (w : Waiters)
       → waiters_of m ≡ Ok w
-      → P w.items
+      → P w
   listed_cases P kept w = cases (listed_of m) listed_trail
     where
-      cases : (l : Listed) → Holds FromWord l → waiters_by l ≡ Ok w → P w.items
+      cases : (l : Listed) → Holds FromWord l → waiters_by l ≡ Ok w → P w
       cases lost t e = absurd (cc)
-      cases (listed ns) t e = let same : ns ≡ w.items = cc in subst P same (kept ns t)
+      cases (listed ns) t e = let same : array_of ns ≡ w = cc in subst P same (kept ns t)
 
   -- 8 on a bad thread count, whatever the word
   pub waiters_bad_count : good_count m.count ≡ false → waiters_of m ≡ Err Damaged
   waiters_bad_count bad = simp bad
 
   -- empty if unqueued
-  pub waiters_unqueued : good_count m.count ≡ true → queued m.word ≡ false → waiters_of m ≡ Ok (record { items = [] })
+  pub waiters_unqueued : good_count m.count ≡ true → queued m.word ≡ false → waiters_of m ≡ Ok (array_of [])
   waiters_unqueued good unqueued = simp (good, unqueued)
 
   -- refused, it is 8
@@ -252,43 +288,45 @@ module _ (m : Machine) where
 
   module _ (w : Waiters) (is : waiters_of m ≡ Ok w) where
     -- a listing has at most as many nodes as the count
-    pub waiters_most : length w.items ≤ m.count
-    waiters_most = listed_cases (λ ns. length ns ≤ m.count) (λ ns t. trail_most t) w is
+    pub waiters_most : w.length ≤ m.count
+    waiters_most = listed_cases (λ x. x.length ≤ m.count) (λ ns t. trail_most t) w is
 
     -- each in 1..count
-    pub waiters_within : (k : ℕ) → k < length w.items → within m.count (get_or w.items k none) ≡ true
-    waiters_within =
-        listed_cases (λ ns. (k : ℕ) → k < length ns → within m.count (get_or ns k none) ≡ true)
-        (λ ns t. trail_within t) w is
+    pub waiters_within : (k : ℕ) → k < w.length → within m.count (get_or w.nodes k none) ≡ true
+    waiters_within k =
+        listed_cases (λ x. k < x.length → within m.count (get_or x.nodes k none) ≡ true)
+        (λ ns t b. rw (kept_at ns k b) (trail_within t k b)) w is
 
     -- the first is the newest waiter, which the word names
-    pub waiters_first : 1 ≤ length w.items → get_or w.items 0 none ≡ to_node m.word
+    pub waiters_first : 1 ≤ w.length → get_or w.nodes 0 none ≡ to_node m.word
     waiters_first =
-        listed_cases (λ ns. 1 ≤ length ns → get_or ns 0 none ≡ to_node m.word) (λ ns t. trail_first t) w is
+        listed_cases (λ x. 1 ≤ x.length → get_or x.nodes 0 none ≡ to_node m.word)
+        (λ ns t b. kept_at ns 0 b ∙ trail_first t b) w is
 
     -- each other is the node that the next of the one before links to
     pub waiters_linked : (k : ℕ)
-        → suc k < length w.items
-        → get_or w.items (suc k) none ≡ link_of m (get_or w.items k none)
-    waiters_linked =
-        listed_cases
-        (λ ns. (k : ℕ) → suc k < length ns → get_or ns (suc k) none ≡ link_of m (get_or ns k none))
-        (λ ns t. trail_linked t) w is
+        → suc k < w.length
+        → get_or w.nodes (suc k) none ≡ link_of m (get_or w.nodes k none)
+    waiters_linked k =
+        listed_cases (λ x. suc k < x.length → get_or x.nodes (suc k) none ≡ link_of m (get_or x.nodes k none))
+        (λ ns t b. kept_at ns (suc k) b ∙ trail_linked t k b ∙ ap (link_of m) (sym (kept_at ns k (omega arith)))) w is
 
-    -- past its end there is no node
-    pub waiters_others : (k : ℕ) → length w.items ≤ k → get_or w.items k none ≡ none
-    waiters_others k past = get_or_past w.items k none past
+    -- past its length its array has no node
+    pub waiters_others : (k : ℕ) → w.length ≤ k → get_or w.nodes k none ≡ none
+    waiters_others k =
+        listed_cases (λ x. x.length ≤ k → get_or x.nodes k none ≡ none) (λ ns t. none_at ns k) w is
 
     -- of a queued word it ends on the first tail that it met
-    pub waiters_met : queued m.word ≡ true → Met m w.items (length w.items)
+    pub waiters_met : queued m.word ≡ true → Met m w.nodes w.length
     waiters_met queue = cases (listed_of m) (listed_met queue) is
       where
-        cases : (l : Listed) → Holds (MetIn m) l → waiters_by l ≡ Ok w → MetIn m w.items
+        cases : (l : Listed) → Holds (MetIn m) l → waiters_by l ≡ Ok w → Met m w.nodes w.length
         cases lost met e = absurd (cc)
-        cases (listed ns) met e = let same : ns ≡ w.items = cc in subst (MetIn m) same met
+        cases (listed ns) met e =
+            let same : array_of ns ≡ w = cc in subst (λ x. Met m x.nodes x.length) same (met_padded m ns met)
 
     -- and so has a node
-    pub waiters_some : queued m.word ≡ true → 1 ≤ length w.items
+    pub waiters_some : queued m.word ≡ true → 1 ≤ w.length
     waiters_some queue = omega (arith, (waiters_met queue).below)
 
 pub reads_one : (h : Holding) → reads_of h ≤ 1

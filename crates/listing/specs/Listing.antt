@@ -1,17 +1,17 @@
 -- The waiter listing of a machine, in document 01's words.
 -- Assumes nothing.
-use Rattle.std.specs.Prelude.{ℕ, zero, suc, ◌-◌, Bool, false, List, [], ◌∷◌, ltb, leb, eqb}
+use Rattle.std.specs.Prelude.{ℕ, zero, suc, ◌-◌, Bool, false, List, [], ◌∷◌, ◌++◌, ltb, leb, eqb, length, replicate}
 use Rattle.std.specs.Prelude.{Option, Some, None, Result, Ok, Err}
-use Rattle.arrayvec.specs.ArrayVec.{ArrayVec}
 use Rattle.word.specs.Base.{pick}
-use Rattle.word.specs.Number.{is_none}
+use Rattle.word.specs.Number.{none, is_none}
 use Rattle.word.specs.Flags.{queued, to_node}
 use Rattle.word.specs.declared.number.NodeNumber.{NodeNumber}
-use Rattle.state.specs.Machine.{good_count, node_at}
+use Rattle.state.specs.Machine.{thread_limit, good_count, node_at}
 use Rattle.state.specs.declared.answer.Refusal.{Refusal}
 use Rattle.state.specs.declared.answer.Refusal.TheVariants.{Damaged}
 use Rattle.state.specs.declared.machine.Machine.{Machine}
 use Rattle.state.specs.declared.node.Node.{Node}
+use Rattle.listing.specs.declared.listing.Waiters.{Waiters}
 
 -- the nodes stood on, newest first; lost where a node is out of range, or there are more visits than the count
 pub data Listed : Type 0 where
@@ -65,14 +65,18 @@ from_head_of m head = pick (good_count m.count) (followed_of m head) lost
 abbrev pub listed_of : Machine → Listed
 listed_of m = pick (good_count m.count) (pick (queued m.word) (followed_of m (to_node m.word)) (listed [])) lost
 
+-- an array's elements: the nodes, and none in the others
+abbrev pub padded : List NodeNumber → List NodeNumber
+padded ns = ns ++ replicate (thread_limit - length ns) none
+
 -- the waiters, newest first
-abbrev pub Waiters : Type 0
-Waiters = ArrayVec NodeNumber
+abbrev pub array_of : List NodeNumber → Waiters
+array_of ns = record { nodes = padded ns; length = length ns }
 
 -- 8 where the listing is lost
 abbrev pub waiters_by : Listed → Result Waiters Refusal
 waiters_by lost = Err Damaged
-waiters_by (listed ns) = Ok (record { items = ns })
+waiters_by (listed ns) = Ok (array_of ns)
 
 abbrev pub waiters_of : Machine → Result Waiters Refusal
 waiters_of m = waiters_by (listed_of m)

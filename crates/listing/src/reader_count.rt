@@ -73,7 +73,7 @@ pub fn reader_count(m: Machine) -> Result<Readers, Refusal>
     }
     // the number is the oldest waiter's next
     let waiters = listing(m)?;
-    let oldest = waiters[waiters.len() - 1];
+    let oldest = waiters.nodes[waiters.length - 1];
     let raw = node_at(m, oldest).unwrap().next.0;
     Ok(report(readers, Sits::Node(oldest), raw, Word::SINGLE * readers))
 }

@@ -1,5 +1,6 @@
 // Document 01's lines: event, thread, answer, woken, word; then `end N` or `refused N`.
 ghost use Rattle.std.specs.Prelude.{◌≡◌};
+ghost use Rattle.state.specs.Answer.{answer_word};
 ghost use Rattle.print.specs.Line.{put_all, line_of};
 ghost use Rattle.print.specs.Replayed.{woken_text, event_text, end_text, refused_text, step_text};
 
@@ -7,6 +8,13 @@ use crate::line::Line;
 use schedule::{Moved, Seen};
 use state::{Accepted, Answer};
 use word::{ThreadNumber, Word};
+
+fn put_answer(line: Line, answer: Answer) -> Line
+    ensures { result ≡ put_all line (answer_word answer) }
+{
+    let word = answer.text();
+    line.text(&word.bytes[..word.length])
+}
 
 fn put_woken(line: Line, woken: Option<ThreadNumber>) -> Line
     ensures { result ≡ put_all line (woken_text woken) }
@@ -27,13 +35,12 @@ pub fn event_line(
 ) -> Line
     ensures { result ≡ line_of (event_text at thread answer woken word) }
 {
-    let answered = Line::blank()
+    let threaded = Line::blank()
         .decimal(at as u64)
         .text(b" ")
         .decimal(thread.0 as u64)
-        .text(b" ")
-        .text(answer.text().as_bytes())
         .text(b" ");
+    let answered = put_answer(threaded, answer).text(b" ");
     put_woken(answered, woken).text(b" ").decimal(word.0)
 }
 

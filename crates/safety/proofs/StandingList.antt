@@ -19,6 +19,7 @@ use Rattle.state.specs.declared.place.Place.{Place}
 use Rattle.state.specs.declared.place.Place.TheVariants.{Idle}
 use Rattle.lock.specs.Laws.{good_count_lem}
 use Rattle.listing.specs.Listing.{Listed, listed, waiters_by}
+use Rattle.listing.specs.Laws.{waiters_most}
 use Rattle.standing.specs.Part.{part_of, registered_of}
 use Rattle.standing.specs.Look.{place_of as place_below, completed_of, among}
 use Rattle.standing.specs.Stands.{aside_in as is_aside, in_list_of, held_by, held_below, in_queue_of, waiting_at}
@@ -116,7 +117,7 @@ module _ (m : Machine) (ok : Sound m) where
     queue_tests : Tests (in_queue_of m n) (At m n queue)
     queue_tests =
         subst (λ l. Tests (among (waiters_by l) n) (In n l)) (sym (listing_is m ok))
-        (among_listed n some _)
+        (among_listed n some _ (omega (arith, waiters_most m _ (ap waiters_by (listing_is m ok)), few)))
 
     waits : Waiter m t.0 → Says (pick (in_queue_of m n) InQueue (held_below m.count m n)) m t
     waits w = by (in_queue_of m n) refl

@@ -3,7 +3,7 @@
 -- list, in a list turned round; the way back by prev; what a thread has taken off.
 -- Assumes nothing.
 use Prim.Native.Nat.{ℕ, zero, suc, ◌-◌, ◌≤◌, ◌<◌}
-use Rattle.std.specs.Prelude.{Bool, ◌≢◌, ◌⊎◌, ◌≡◌, ltb, leb, length, get_or, Some, None}
+use Rattle.std.specs.Prelude.{Bool, ◌≢◌, ◌⊎◌, ◌≡◌, ltb, leb, length, get_or, replicate, Some, None}
 use Rattle.std.proofs.Math.Bool.{true, false}
 use mathlib.Core.List.{List, [], ◌∷◌, ◌++◌, reverse, reverse_aux, reverse-cons, reverse-reverse}
 use mathlib.Core.List.Memᴰ
@@ -20,7 +20,9 @@ use Rattle.word.specs.declared.number.NodeNumber.{NodeNumber}
 use Rattle.state.specs.Machine.{thread_limit, node_at, good_count}
 use Rattle.state.specs.declared.machine.Machine.{Machine}
 use Rattle.state.specs.declared.place.Who.{Who}
-use Rattle.listing.specs.Listing.{Listed, lost, listed, prepend, within, node_by, stand, followed_of, waiters_by}
+use Rattle.listing.specs.Listing.{Listed, lost, listed, prepend, within, node_by, stand, followed_of, padded}
+use Rattle.listing.specs.Listing.{waiters_by}
+use Rattle.listing.specs.Laws.{followed_most}
 use Rattle.standing.specs.Look.{prev_by, prev_of, same_or, among_below, among, met_from}
 use Rattle.standing.specs.Stands.{aside_in as is_aside, in_list_of}
 use Rattle.standing.specs.declared.part.Part.{Part}
@@ -97,17 +99,22 @@ module _ (n : NodeNumber) (some : n.0 ≢ 0) where
   abbrev IsAt : List NodeNumber → ℕ → Type 0
   IsAt l i = (get_or l i none).0 ≡ n.0
 
-  at_in : (ns : List NodeNumber) (i : ℕ) → IsAt ns i → Memᴰ n ns
-  at_in [] i e = absurd (some (sym e))
-  at_in (x ∷ ns) zero e = Memᴰ.head (ap node (sym e))
-  at_in (x ∷ ns) (suc i) e = Memᴰ.tail (at_in ns i e)
-
-  in_at : (ns : List NodeNumber) → Memᴰ n ns → (i : ℕ) × (i < length ns) × IsAt ns i
-  in_at [] i = absurd (Memᴰ.not-nil i)
-  in_at (x ∷ ns) i = by (in_at ns) (Memᴰ.cases_cons i)
+  at_in : (ns : List NodeNumber) (k i : ℕ) → IsAt (ns ++ replicate k none) i → Memᴰ n ns
+  at_in [] k i e = absurd (some (sym e ∙ blank k i))
     where
-      by : (Memᴰ n ns → (j : ℕ) × (j < length ns) × IsAt ns j) → (n ≡ x) ⊎ Memᴰ n ns
-          → (j : ℕ) × (j < suc (length ns)) × IsAt (x ∷ ns) j
+      blank : (k i : ℕ) → (get_or (replicate k none) i none).0 ≡ 0
+      blank zero i = refl
+      blank (suc k) zero = refl
+      blank (suc k) (suc i) = blank k i
+  at_in (x ∷ ns) k zero e = Memᴰ.head (ap node (sym e))
+  at_in (x ∷ ns) k (suc i) e = Memᴰ.tail (at_in ns k i e)
+
+  in_at : (ns : List NodeNumber) (k : ℕ) → Memᴰ n ns → (i : ℕ) × (i < length ns) × IsAt (ns ++ replicate k none) i
+  in_at [] k i = absurd (Memᴰ.not-nil i)
+  in_at (x ∷ ns) k i = by (in_at ns k) (Memᴰ.cases_cons i)
+    where
+      by : (Memᴰ n ns → (j : ℕ) × (j < length ns) × IsAt (ns ++ replicate k none) j) → (n ≡ x) ⊎ Memᴰ n ns
+          → (j : ℕ) × (j < suc (length ns)) × IsAt (x ∷ (ns ++ replicate k none)) j
       by r (inl e) = (0, omega arith, ap (λ (y : NodeNumber). y.0) (sym e))
       by r (inr j) = let y = r j in (suc y.0, omega (arith, y.1), y.2)
 
@@ -137,10 +144,12 @@ module _ (n : NodeNumber) (some : n.0 ≢ 0) where
               let last : i ≡ k = omega (arith, b) in
               absurd (eqb-false (get_or l k none).0 n.0 f (subst (IsAt l) last e))
 
-  pub among_listed : (ns : List NodeNumber) → Tests (among (waiters_by (listed ns)) n) (Memᴰ n ns)
-  among_listed ns = (
-    λ e. let x = among_at (length ns) ns e in at_in ns x.0 x.1,
-    λ i. let x = in_at ns i in at_among (length ns) ns x.0 x.1 x.2,
+  pub among_listed : (ns : List NodeNumber) → length ns ≤ thread_limit
+      → Tests (among (waiters_by (listed ns)) n) (Memᴰ n ns)
+  among_listed ns l = (
+    λ e. let x = among_at thread_limit (padded ns) e in at_in ns (thread_limit - length ns) x.0 x.1,
+    λ i. let x = in_at ns (thread_limit - length ns) i in
+        at_among thread_limit (padded ns) x.0 (omega (arith, x.1)) x.2,
   )
 
   -- ── turned round ──
@@ -225,11 +234,14 @@ module _ (n : NodeNumber) (some : n.0 ≢ 0) where
     walking good head ns e =
         subst (λ l. Tests (among (waiters_by l) n) (In n (turned (followed_of m head))))
         (pick_yes (good_count m.count) (followed_of m head) (followed_of m head) lost good refl)
-        (by (followed_of m head) e)
+        (by (followed_of m head) refl e)
       where
-        by : (l : Listed) → turned l ≡ listed ns → Tests (among (waiters_by l) n) (In n (turned l))
-        by lost g = lost_not ns g
-        by (listed xs) g = let x = among_listed xs in (λ h. in_turned xs (x.0 h), λ i. x.1 (turned_in xs i))
+        by : (l : Listed) → followed_of m head ≡ l → turned l ≡ listed ns
+            → Tests (among (waiters_by l) n) (In n (turned l))
+        by lost f g = lost_not ns g
+        by (listed xs) f g =
+            let x = among_listed xs (omega (arith, followed_most m head xs f, few)) in
+            (λ h. in_turned xs (x.0 h), λ i. x.1 (turned_in xs i))
 
     -- by its part: the node is set aside by it, and is on its waker's list, exactly if the trace says so
     pub told : good_count m.count ≡ true → (part : Part) (ns : List NodeNumber)

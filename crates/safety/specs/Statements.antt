@@ -35,7 +35,7 @@ use Rattle.schedule.specs.Replay.{stop_number}
 use Rattle.schedule.specs.Whole.{file_stop_number}
 use Rattle.schedule.specs.declared.replay.Replayed.{Replayed as Replay}
 use Rattle.schedule.specs.declared.whole.FileStop.{FileStop}
-use Rattle.listing.specs.Listing.{Listed, lost, listed, node_by, listed_of, waiters_of}
+use Rattle.listing.specs.Listing.{Listed, lost, listed, node_by, listed_of, array_of, waiters_of}
 use Rattle.listing.specs.ReaderCount.{oldest, readers_of}
 use Rattle.listing.specs.declared.reader_count.Readers.{Readers}
 use Rattle.queue.specs.Updates.{upd}
@@ -197,7 +197,7 @@ NoRepeats (k ∷ ns) = (Memᴰ k ns → ⊥) × NoRepeats ns
 -- the listing refuses nothing, has no repeats, and is the newest registrations of the run, newest first
 pub record Listing (m : Machine) (made : List NodeNumber) : Type 0 where
   pub waiting : ℕ
-  pub fine : waiters_of m ≡ Ok (record { items = take waiting made })
+  pub fine : waiters_of m ≡ Ok (array_of (take waiting made))
   pub is : listed_of m ≡ listed (take waiting made)
   pub once : NoRepeats (take waiting made)
 

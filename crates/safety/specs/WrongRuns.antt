@@ -43,8 +43,9 @@ use Rattle.schedule.specs.Whole.{file_replay_of}
 use Rattle.schedule.specs.declared.replay.Replayed.{Replayed as Replay}
 use Rattle.schedule.specs.declared.whole.FileStop.{FileStop}
 use Rattle.schedule.specs.declared.whole.FileStop.TheVariants.{Refused as FileStopped}
-use Rattle.listing.specs.Listing.{Listed, lost, listed, listed_of, to_set, to_tail, Waiters}
+use Rattle.listing.specs.Listing.{Listed, lost, listed, listed_of, to_set, to_tail}
 use Rattle.listing.specs.ReaderCount.{reads_below}
+use Rattle.listing.specs.declared.listing.Waiters.{Waiters}
 use Rattle.listing.specs.declared.reader_count.Readers.{Readers}
 use Rattle.standing.specs.Look.{among_below, met_from}
 use Rattle.standing.specs.Stands.{held_below}

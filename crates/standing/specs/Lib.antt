@@ -3,3 +3,4 @@ pub mod Look
 pub mod Stands
 pub mod LookLaws
 pub mod Rouses
+pub mod Examples

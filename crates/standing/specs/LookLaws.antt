@@ -1,11 +1,14 @@
--- Laws for the loops that look for a node: one visit more.
+-- Laws for the searches for a node: one visit more, and what a refused listing comes to.
 -- Assumes nothing.
-use Rattle.std.specs.Prelude.{ℕ, zero, suc, ◌+◌, ◌-◌, ◌<◌, Bool, false, ◌≡◌, refl, List, get_or}
+use Rattle.std.specs.Prelude.{ℕ, zero, suc, ◌+◌, ◌-◌, ◌<◌, Bool, false, ◌≡◌, refl, List, [], get_or, Ok, Err}
 use Rattle.std.proofs.Common.{ap, suc-ne-zero, arith}
-use Rattle.word.specs.Number.{none}
+use Rattle.std.proofs.Math.Dec.{eqb-suc-zero, eqb-zero-suc}
+use Rattle.word.specs.Number.{node, none}
 use Rattle.word.specs.declared.number.NodeNumber.{NodeNumber}
+use Rattle.state.specs.declared.answer.Refusal.{Refusal}
 use Rattle.state.specs.declared.machine.Machine.{Machine}
-use Rattle.standing.specs.Look.{prev_of, same_or, among_below, met_from}
+use Rattle.listing.specs.Listing.{array_of}
+use Rattle.standing.specs.Look.{prev_of, same_or, among_below, among, met_from}
 use Rattle.standing.specs.Stands.{held_at, held_below}
 use Rattle.standing.specs.declared.stands.Standing.TheVariants.{Nowhere}
 
@@ -19,6 +22,15 @@ unfolding among_below
 among_more k ns n =
     let e : suc k ≡ k + 1 = omega arith in
     ap (λ (i : ℕ). among_below i ns n) e
+
+-- a refused listing has what an empty one has
+pub among_refused : (r : Refusal) (n : NodeNumber) → among (Err r) n ≡ among (Ok (array_of [])) n
+unfolding among_below
+among_refused r n = by n.0
+  where
+    by : (k : ℕ) → among (Err r) (node k) ≡ among (Ok (array_of [])) (node k)
+    by zero = refl
+    by (suc k) = simp (eqb-suc-zero k, eqb-zero-suc k)
 
 pub met_none : (left : ℕ) (m : Machine) (n at : NodeNumber) (found : Bool)
     → left ≡ 0

@@ -32,13 +32,14 @@ fn prev_of(m: Machine, at: NodeNumber) -> NodeNumber
         .map_or(NodeNumber::NONE, |n| n.prev)
 }
 
-// Is a node one of the waiters? Refused, there are none. (By `is_ok_and` the check found no proof.)
+// Is a node one of the waiters? Node none is, where their array has room or the listing is refused. (By `is_ok_and`
+// the check found no proof.)
 pub(crate) fn listed(waiters: Result<Waiters, Refusal>, n: NodeNumber) -> bool
     ensures { result ≡ among waiters n }
 {
     match waiters {
-        Ok(w) => w.contains(&n),
-        Err(_) => false,
+        Ok(w) => w.nodes.contains(&n),
+        Err(_) => n.is_none(),
     }
 }
 

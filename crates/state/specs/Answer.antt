@@ -9,6 +9,7 @@ use Rattle.state.specs.declared.answer.Answer.TheVariants.{Begun, Went, Done, Ye
 use Rattle.state.specs.declared.answer.Refusal.{Refusal}
 use Rattle.state.specs.declared.answer.Refusal.TheVariants.{UnknownCode, NoThread, InsideCall, WrongHolding}
 use Rattle.state.specs.declared.answer.Refusal.TheVariants.{NotInCall, NoToken, CannotFail, Damaged}
+use Rattle.state.specs.declared.answer.Text.{Text}
 
 abbrev pub Verdict : Type 0
 Verdict = Result ⊤ Refusal
@@ -38,14 +39,9 @@ answer_word Done = codes "done"
 answer_word Yes = codes "yes"
 answer_word No = codes "no"
 
--- a word in five bytes, with zeros up to them, and its length
-pub record Text : Type 0 where
-  pub bytes : List ℕ
-  pub length : ℕ
-
-abbrev pub five_bytes : List ℕ → Text
-five_bytes word = record { bytes = word ++ replicate (5 - length word) 0; length = length word }
-
--- an answer's word so
+-- the word, and zeros up to five bytes
 abbrev pub answer_text : Answer → Text
-answer_text a = five_bytes (answer_word a)
+answer_text a = record {
+  bytes = answer_word a ++ replicate (5 - length (answer_word a)) 0;
+  length = length (answer_word a);
+}

@@ -1,6 +1,6 @@
 // What an event answers, and why it is refused, by document 01's words and numbers.
 ghost use Rattle.std.specs.Prelude.{◌≡◌};
-ghost use Rattle.state.specs.Answer.{refusal_number, answer_word};
+ghost use Rattle.state.specs.Answer.{refusal_number, answer_text};
 
 use word::ThreadNumber;
 
@@ -34,6 +34,14 @@ pub struct Accepted {
 
 pub type Reply = Result<Accepted, Refusal>;
 
+// An answer's word in ASCII, and how many of the bytes it has; the others are 0. No `&'static str`: a clause tells of
+// one the bytes alone.
+#[derive(Clone, Copy)]
+pub struct Text {
+    pub bytes: [u8; 5],
+    pub length: usize,
+}
+
 impl Refusal {
     // Public, with document 01's number in its clause, so no From.
     pub fn number(self) -> u8
@@ -44,16 +52,16 @@ impl Refusal {
 }
 
 impl Answer {
-    // Its word, in ASCII.
-    pub fn text(self) -> &'static str
-        ensures { result.now ≡ answer_word self }
+    pub fn text(self) -> Text
+        ensures { result ≡ answer_text self }
     {
-        match self {
-            Answer::Begun => "begun",
-            Answer::Went => "went",
-            Answer::Done => "done",
-            Answer::Yes => "yes",
-            Answer::No => "no",
-        }
+        let (bytes, length) = match self {
+            Answer::Begun => (*b"begun", 5),
+            Answer::Went => (*b"went\0", 4),
+            Answer::Done => (*b"done\0", 4),
+            Answer::Yes => (*b"yes\0\0", 3),
+            Answer::No => (*b"no\0\0\0", 2),
+        };
+        Text { bytes, length }
     }
 }

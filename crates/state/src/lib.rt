@@ -22,7 +22,7 @@ pub mod place;
 pub mod view;
 
 pub use access::{Access, Kind, Location};
-pub use answer::{Accepted, Answer, Refusal, Reply};
+pub use answer::{Accepted, Answer, Refusal, Reply, Text};
 pub use holding::Holding;
 pub use machine::{Fresh, Machine, Outcome, THREADS, Thread, good_count};
 pub use node::Node;

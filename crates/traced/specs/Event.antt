@@ -1,16 +1,18 @@
 -- The trace's lines as text (docs/TRACE.md): an event's line, the waiters newest first, the reader count and where it
 -- sits.
 -- Assumes nothing.
-use Rattle.std.specs.Prelude.{ℕ, zero, suc, List, [], ◌++◌, eqb, get_or, Err, Ok, Option, Some, None, length, Result}
+use Rattle.std.specs.Prelude.{ℕ, zero, suc, List, [], ◌++◌, eqb, get_or, Err, Ok, Option, Some, None, Result}
 use Rattle.word.specs.Base.{pick}
 use Rattle.word.specs.Number.{none, is_none}
 use Rattle.word.specs.declared.number.ThreadNumber.{ThreadNumber}
 use Rattle.word.specs.declared.number.NodeNumber.{NodeNumber}
 use Rattle.state.specs.Answer.{refusal_number, Reply}
+use Rattle.state.specs.Machine.{thread_limit}
 use Rattle.state.specs.declared.answer.Refusal.{Refusal}
 use Rattle.state.specs.declared.machine.Machine.{Machine}
-use Rattle.listing.specs.Listing.{waiters_of, Waiters}
+use Rattle.listing.specs.Listing.{waiters_of}
 use Rattle.listing.specs.ReaderCount.{readers_of}
+use Rattle.listing.specs.declared.listing.Waiters.{Waiters}
 use Rattle.listing.specs.declared.reader_count.Sits.{Sits}
 use Rattle.listing.specs.declared.reader_count.Sits.TheVariants.{Nowhere, Word as InWord, Downgrade, Node as InNode}
 use Rattle.listing.specs.declared.reader_count.Readers.{Readers}
@@ -24,7 +26,7 @@ use Rattle.print.specs.Replayed.{event_text, end_text, refused_text}
 abbrev pub node_text : NodeNumber → List ℕ
 node_text n = pick (is_none n) [] (ascii " " ++ decimal n.0)
 
--- the first k of a list of nodes
+-- the first k of an array of nodes; past the waiters' length it has none
 unfoldable pub nodes_text : ℕ → List NodeNumber → List ℕ
 nodes_text zero ns = []
 nodes_text (suc k) ns = nodes_text k ns ++ node_text (get_or ns k none)
@@ -33,7 +35,7 @@ abbrev pub refusal_text : Refusal → List ℕ
 refusal_text refusal = ascii " refused " ++ decimal (refusal_number refusal)
 
 abbrev pub listed_text : Waiters → List ℕ
-listed_text w = pick (eqb (length w.items) 0) (ascii " -") (nodes_text (length w.items) w.items)
+listed_text w = pick (eqb w.length 0) (ascii " -") (nodes_text thread_limit w.nodes)
 
 abbrev pub waiters_by : Result Waiters Refusal → List ℕ
 waiters_by (Err refusal) = refusal_text refusal

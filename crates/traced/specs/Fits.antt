@@ -7,8 +7,10 @@ use Prim.Native.Nat.{ℕ, zero, suc, ◌+◌, ◌*◌, ◌<◌, ◌≤◌}
 use Rattle.std.specs.Prelude.{Bool, true, List, [], ◌++◌, ◌≡◌, refl, length, get_or, Err, Ok, Option, Result}
 use Rattle.std.proofs.Math.Bool.{false}
 use Rattle.std.proofs.lemmas.Bool.{false≢true}
-use Rattle.std.proofs.Common.{sym, ◌∙◌}
+use Rattle.std.proofs.Common.{sym, ap, ◌∙◌}
+use Rattle.std.proofs.Math.Decide.{dec_lt}
 use native.Mathlib.Omega.{arith}
+use borrow.Author.Tests.{ne_eqb}
 use Rattle.std.proofs.Math.Dec.{eqb}
 use Rattle.std.proofs.Math.ListN.{length-append}
 use Rattle.word.specs.Base.{pick}
@@ -25,9 +27,10 @@ use Rattle.state.specs.declared.holding.Holding.{Holding}
 use Rattle.state.specs.declared.holding.Holding.TheVariants as Holds
 use Rattle.state.specs.declared.machine.Machine.{Machine}
 use Rattle.state.specs.declared.machine.Thread.{Thread}
-use Rattle.listing.specs.Listing.{waiters_of, Waiters}
-use Rattle.listing.specs.Laws.{in_range, waiters_bad_count, waiters_within, few_threads, waiters_most}
+use Rattle.listing.specs.Listing.{waiters_of}
+use Rattle.listing.specs.Laws.{in_range, waiters_bad_count, waiters_within, waiters_others, few_threads}
 use Rattle.listing.specs.ReaderCount.{readers_of}
+use Rattle.listing.specs.declared.listing.Waiters.{Waiters}
 use Rattle.listing.specs.declared.reader_count.Readers.{Readers}
 use Rattle.listing.specs.declared.reader_count.Sits.{Sits}
 use Rattle.standing.specs.Look.{completed_of, record_of}
@@ -60,31 +63,40 @@ refusal_short refusal = numbered (ascii " refused ") (refusal_number refusal)
 
 -- ── the waiters ──
 
-module _ (ns : List NodeNumber) (small : (k : ℕ) → k < length ns → (get_or ns k none).0 < 10) where
-  node_short : (k : ℕ) → k < length ns → length (node_text (get_or ns k none)) ≤ 2
-  node_short k h =
+module _ (ns : List NodeNumber) (small : (k : ℕ) → (get_or ns k none).0 < 10) where
+  node_short : (k : ℕ) → length (node_text (get_or ns k none)) ≤ 2
+  node_short k =
       let n = get_or ns k none in
       pick_both (λ (text : List ℕ). length text ≤ 2) (is_none n) [] (ascii " " ++ decimal n.0)
       (λ _. omega arith)
-      (λ _. spaced_digit n.0 (small k h))
+      (λ _. spaced_digit n.0 (small k))
 
-  nodes_short : (k : ℕ) → k ≤ length ns → length (nodes_text k ns) ≤ 2 * k
+  nodes_short : (k : ℕ) → length (nodes_text k ns) ≤ 2 * k
   unfolding nodes_text
-  nodes_short zero h = omega arith
-  nodes_short (suc k) h =
-      let one_more = length-append (nodes_text k ns) (node_text (get_or ns k none)) in
-      omega (arith, nodes_short k (omega arith), node_short k h, one_more)
+  nodes_short zero = omega arith
+  nodes_short (suc k) =
+      omega (arith, nodes_short k, node_short k, length-append (nodes_text k ns) (node_text (get_or ns k none)))
 
 module _ (m : Machine) where
-  -- a count is below ten
+  -- a count is below ten, and so each node of a listing; past its length its array has none
+  node_small : (w : Waiters)
+      → waiters_of m ≡ Ok w
+      → m.count ≤ thread_limit
+      → (k : ℕ)
+      → (get_or w.nodes k none).0 < 10
+  node_small w is few k = by (dec_lt k w.length)
+    where
+      by : Dec (k < w.length) → (get_or w.nodes k none).0 < 10
+      by (yes h) = omega (arith, in_range (get_or w.nodes k none).0 m.count (waiters_within m w is k h))
+      by (no h) =
+          let e : get_or w.nodes k none ≡ none = waiters_others m w is k (omega arith) in
+          omega (arith, ap (λ (n : NodeNumber). n.0) e)
+
   listed_short : (w : Waiters) → waiters_of m ≡ Ok w → m.count ≤ thread_limit → length (listed_text w) ≤ 16
   listed_short w is few =
-      let small : (k : ℕ) → k < length w.items → (get_or w.items k none).0 < 10 =
-      λ k h. omega (arith, in_range (get_or w.items k none).0 m.count (waiters_within m w is k h)) in
-      pick_both (λ (text : List ℕ). length text ≤ 16) (eqb (length w.items) 0) (ascii " -")
-      (nodes_text (length w.items) w.items)
+      pick_both (λ (text : List ℕ). length text ≤ 16) (eqb w.length 0) (ascii " -") (nodes_text thread_limit w.nodes)
       (λ _. omega arith)
-      (λ _. omega (arith, nodes_short w.items small (length w.items) (omega arith), waiters_most m w is))
+      (λ _. omega (arith, nodes_short w.nodes (node_small w is few) thread_limit))
 
   waiters_by_short : good_count m.count ≡ true
       → (waiters : Result Waiters Refusal)
@@ -184,8 +196,10 @@ module _ (m : Machine) where
       omega (arith, rousers_short k (omega arith), rouser_short k h, length-append (rousers_text k m) (rouser_text m k))
 
   -- nobody is in the queue of a machine with a bad count
-  none_queued : (n : NodeNumber) → good_count m.count ≡ false → in_queue_of m n ≡ false
-  none_queued n bad = rw (waiters_bad_count m bad)
+  none_queued : (n : NodeNumber) → 0 < n.0 → good_count m.count ≡ false → in_queue_of m n ≡ false
+  none_queued n some bad =
+      let other : is_none n ≡ false = ne_eqb n.0 0 (λ e. omega arith) in
+      rw (waiters_bad_count m bad) other
 
   abbrev Short : Standing → Type 0
   Short standing = length (standing_text m standing) ≤ 45
@@ -211,13 +225,14 @@ module _ (m : Machine) where
   queue_short_by :
       (n : NodeNumber) (b : Bool)
       → good_count m.count ≡ b
+      → 0 < n.0
       → in_queue_of m n ≡ true
       → Short Stands.InQueue
-  queue_short_by n true good met =
+  queue_short_by n true good some met =
       let few = few_threads m.count good in
       let all = length-append (ascii ", in the queue, waits for") (rousers_text m.count m) in
       omega (arith, few, all, rousers_short m.count (omega (arith, few)))
-  queue_short_by n false bad met = absurd (false≢true (sym (none_queued n bad) ∙ met))
+  queue_short_by n false bad some met = absurd (false≢true (sym (none_queued n some bad) ∙ met))
 
   standing_short : (t : ThreadNumber) → Short (standing_of m t)
   standing_short t =
@@ -227,7 +242,7 @@ module _ (m : Machine) where
       (λ _. pick_both Short (completed_of m t.0) Stands.Completed queued
       (λ _. omega arith)
       (λ _. pick_both Short (in_queue_of m n) Stands.InQueue (held_below m.count m n)
-      (λ met. queue_short_by n (good_count m.count) refl met)
+      (λ met. queue_short_by n (good_count m.count) refl (omega arith) met)
       (λ _. held_short m.count n)))
       (λ _. omega arith)
 

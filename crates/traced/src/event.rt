@@ -1,6 +1,7 @@
 // The trace's lines: an event's with the waiters newest first and the reader count where it sits (docs/TRACE.md).
-ghost use Rattle.std.specs.Prelude.{◌≡◌, length};
+ghost use Rattle.std.specs.Prelude.{◌≡◌};
 ghost use Rattle.print.specs.Line.{put_all, line_of};
+ghost use Rattle.state.specs.Machine.{thread_limit};
 ghost use Rattle.traced.specs.Event.{node_text, nodes_text, refusal_text, listed_text, waiters_text, sits_text};
 ghost use Rattle.traced.specs.Event.{raw_text, counted_text, readers_text, state_text, traced_text};
 
@@ -13,7 +14,7 @@ use schedule::{Moved, Seen};
 use state::{Machine, Refusal};
 use word::NodeNumber;
 
-// A waiter is a node; of none the definition has no text.
+// Past the waiters' length their array has none, and none has no text.
 fn put_node(line: Line, n: NodeNumber) -> Line
     ensures { result ≡ put_all line (node_text n) }
 {
@@ -24,10 +25,10 @@ fn put_node(line: Line, n: NodeNumber) -> Line
     }
 }
 
-fn put_nodes(mut line: Line, w: &Waiters) -> Line
-    ensures { result ≡ put_all line (nodes_text (length w.now.items) w.now.items) }
+fn put_nodes(mut line: Line, w: Waiters) -> Line
+    ensures { result ≡ put_all line (nodes_text thread_limit w.nodes) }
 {
-    for n in w.as_slice() {
+    for n in &w.nodes {
         line = put_node(line, *n);
     }
     line
@@ -39,10 +40,10 @@ fn put_refusal(line: Line, refusal: Refusal) -> Line
     line.text(b" refused ").decimal(refusal.number() as u64)
 }
 
-fn put_listed(line: Line, w: &Waiters) -> Line
-    ensures { result ≡ put_all line (listed_text w.now) }
+fn put_listed(line: Line, w: Waiters) -> Line
+    ensures { result ≡ put_all line (listed_text w) }
 {
-    if w.is_empty() {
+    if w.length == 0 {
         line.text(b" -")
     } else {
         put_nodes(line, w)
@@ -54,7 +55,7 @@ fn put_waiters(line: Line, waiters: Result<Waiters, Refusal>) -> Line
 {
     let headed = line.text(b" | waiters");
     match waiters {
-        Ok(w) => put_listed(headed, &w),
+        Ok(w) => put_listed(headed, w),
         Err(refusal) => put_refusal(headed, refusal),
     }
 }

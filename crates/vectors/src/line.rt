@@ -20,13 +20,24 @@ fn located(location: Location) -> [u64; 2] {
 
 impl Page {
     fn reply(&mut self, reply: Reply) {
-        let _ = match reply {
-            Ok(Accepted { answer, woken }) => match woken {
-                None => write!(self, "{} -", answer.text()),
-                Some(t) => write!(self, "{} {}", answer.text(), t.0),
-            },
-            Err(refusal) => write!(self, "refused {}", refusal.number()),
-        };
+        match reply {
+            Ok(Accepted { answer, woken }) => {
+                let word = answer.text();
+                for b in word.bytes.iter().take(word.length) {
+                    self.byte(*b);
+                }
+                match woken {
+                    None => {
+                        let _ = self.write_str(" -");
+                    }
+                    Some(t) => self.number(u64::from(t.0)),
+                }
+            }
+            Err(refusal) => {
+                let _ = self.write_str("refused");
+                self.number(u64::from(refusal.number()));
+            }
+        }
     }
 
     fn access(&mut self, place: Place, access: Access) {

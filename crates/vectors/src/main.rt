@@ -8,11 +8,12 @@ mod carried;
 mod line;
 mod page;
 
-use arrayvec::ArrayVec;
+ghost use Rattle.std.specs.Prelude.{◌≤◌, length};
+
 use lock::event::event;
 use page::Page;
-use state::{Machine, Outcome};
-use std::io::{self, Read};
+use state::{Machine, Outcome, Reply};
+use std::io::Read;
 use word::ThreadNumber;
 
 // The bytes of a command.
@@ -54,35 +55,50 @@ struct Port<'a, R> {
 }
 
 impl<R: Print> Port<'_, R> {
-    fn event(&mut self, command: Command, code: u8, me: ThreadNumber) {
-        let Outcome { machine, reply } = event(self.machine, code, me);
-        if command != Command::Quiet {
-            self.page.line(reply, &machine, command == Command::Try);
-            if self.page.is_full() {
-                self.page.write_out(self.rt);
+    fn show(&mut self, reply: Reply, m: &Machine, inner: bool) {
+        self.page.line(reply, m, inner);
+        if self.page.is_full() {
+            self.page.write_out(self.rt);
+        }
+    }
+
+    // All that is asked in a block is answered. The machine is a local meanwhile: as a field it was copied more often.
+    fn answer(&mut self, block: &[u8]) {
+        let mut m = self.machine;
+        let (commands, _) = block.as_chunks::<WIDTH>();
+        for [command, code, thread] in commands {
+            match command_of(*command) {
+                None => (),
+                Some(Command::Fresh) => m = Machine::fresh(*code).machine,
+                Some(command) => {
+                    let Outcome { machine, reply } = event(m, *code, ThreadNumber(*thread));
+                    if command != Command::Quiet {
+                        self.show(reply, &machine, command == Command::Try);
+                    }
+                    if command != Command::Try {
+                        m = machine;
+                    }
+                }
             }
         }
-        if command != Command::Try {
-            self.machine = machine;
-        }
-    }
-
-    fn obey(&mut self, [command, code, thread]: [u8; WIDTH]) {
-        match command_of(command) {
-            Some(Command::Fresh) => self.machine = Machine::fresh(code).machine,
-            Some(command) => self.event(command, code, ThreadNumber(thread)),
-            None => (),
-        }
-    }
-
-    // All that is asked in a block is answered.
-    fn answer(&mut self, block: &[u8]) {
-        let (commands, _) = block.as_chunks::<WIDTH>();
-        for command in commands {
-            self.obey(*command);
-        }
+        self.machine = m;
         self.page.write_out(self.rt);
     }
+}
+
+// How many bytes were put at the start: all, or as many as there were before the end or a read that failed. (`io::copy`
+// would go on after a read that a signal broke off.)
+fn read_full(from: &mut impl Read, bytes: &mut [u8]) -> usize
+    ensures { result ≤ length bytes.new }
+{
+    let mut done = 0;
+    while done < bytes.len() {
+        match from.read(&mut bytes[done..]) {
+            Ok(0) | Err(_) => break,
+            Ok(more) => done += more,
+        }
+    }
+    done
 }
 
 fn main(rt: HostRuntime) {
@@ -93,11 +109,10 @@ fn main(rt: HostRuntime) {
     };
     // more blocks than can come: a loop is shown to end
     for _ in 0..u64::MAX {
-        let mut block = ArrayVec::<u8, BLOCK>::new();
-        // What came before the end, or before a read that failed, is answered.
-        let _ = io::copy(&mut rt.reader().take(BLOCK as u64), &mut block);
-        port.answer(block.as_slice());
-        if !block.is_full() {
+        let mut block = [0; BLOCK];
+        let got = read_full(&mut rt.reader(), &mut block);
+        port.answer(&block[..got]);
+        if got < BLOCK {
             return;
         }
     }

@@ -5,7 +5,7 @@ ghost use Rattle.word.specs.Number.{node_of, owner_of, is_none, slot_of};
 #[derive(Clone, Copy, PartialEq, Eq)]
 pub struct ThreadNumber(pub u8);
 
-#[derive(Clone, Copy, Default, PartialEq, Eq)]
+#[derive(Clone, Copy, PartialEq, Eq)]
 pub struct NodeNumber(pub u64);
 
 impl ThreadNumber {

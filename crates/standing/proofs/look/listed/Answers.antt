@@ -1,7 +1,11 @@
--- `standing::look::listed` meets its contract: the search is that of the whole list. Assumes nothing.
+-- `standing::look::listed` meets its contract: the search is that of the whole array. Assumes nothing.
+use Rattle.std.proofs.Common.{◌≡◌, length, arith}
+use Rattle.state.specs.Machine.{thread_limit}
 use Rattle.standing.proofs.Among.{any_is}
 use Rattle.standing.proofs.look.listed.Goals as goal
 
 pub returns-in-Ok : goal.returns-in-Ok
 returns-in-Ok c =
-    rw (c.in-Ok.is, c.contains.ensures.value, c.deref.ensures.0) (any_is c.in-Ok.w.items c.args.n)
+    let w = c.in-Ok.w in
+    let long : length w.nodes ≡ thread_limit = omega arith in
+    rw (c.in-Ok.is, c.contains.ensures.value, ← long) (any_is w.nodes c.args.n)
