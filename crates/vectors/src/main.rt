@@ -12,7 +12,7 @@ ghost use Rattle.std.specs.Prelude.{◌≤◌, length};
 
 use lock::event::event;
 use page::Page;
-use state::{Machine, Outcome, Reply};
+use state::{Machine, Outcome};
 use std::io::Read;
 use word::ThreadNumber;
 
@@ -55,33 +55,33 @@ struct Port<'a, R> {
 }
 
 impl<R: Print> Port<'_, R> {
-    fn show(&mut self, reply: Reply, m: &Machine, inner: bool) {
-        self.page.line(reply, m, inner);
-        if self.page.is_full() {
-            self.page.write_out(self.rt);
+    fn event(&mut self, command: Command, code: u8, me: ThreadNumber) {
+        let Outcome { machine, reply } = event(self.machine, code, me);
+        if command != Command::Quiet {
+            self.page.line(reply, &machine, command == Command::Try);
+            if self.page.is_full() {
+                self.page.write_out(self.rt);
+            }
+        }
+        if command != Command::Try {
+            self.machine = machine;
         }
     }
 
-    // All that is asked in a block is answered. The machine is a local meanwhile: as a field it was copied more often.
-    fn answer(&mut self, block: &[u8]) {
-        let mut m = self.machine;
-        let (commands, _) = block.as_chunks::<WIDTH>();
-        for [command, code, thread] in commands {
-            match command_of(*command) {
-                None => (),
-                Some(Command::Fresh) => m = Machine::fresh(*code).machine,
-                Some(command) => {
-                    let Outcome { machine, reply } = event(m, *code, ThreadNumber(*thread));
-                    if command != Command::Quiet {
-                        self.show(reply, &machine, command == Command::Try);
-                    }
-                    if command != Command::Try {
-                        m = machine;
-                    }
-                }
-            }
+    fn obey(&mut self, [command, code, thread]: [u8; WIDTH]) {
+        match command_of(command) {
+            Some(Command::Fresh) => self.machine = Machine::fresh(code).machine,
+            Some(command) => self.event(command, code, ThreadNumber(thread)),
+            None => (),
         }
-        self.machine = m;
+    }
+
+    // All that is asked in a block is answered.
+    fn answer(&mut self, block: &[u8]) {
+        let (commands, _) = block.as_chunks::<WIDTH>();
+        for command in commands {
+            self.obey(*command);
+        }
         self.page.write_out(self.rt);
     }
 }
