@@ -1,5 +1,5 @@
 -- Page after page: what is written, and what the loop that writes the pages keeps.
--- In order: at most a line's width for each event and one; what is kept; one page more, where the replay is over.
+-- In order: at most a line's width for each event and one; what is kept; one page more, by whether the replay goes on.
 -- Not here: how one page is filled (Filling.antt); what a run or a file comes to (Printing.antt).
 -- Assumes nothing.
 use Rattle.std.specs.Prelude.{ℕ, ◌+◌, ◌-◌, ◌*◌, ◌/◌, ◌<◌, ◌≤◌, List, ◌≡◌, length, take, drop, Option, Result}
